@@ -1,0 +1,10 @@
+pub mod Totals
+pub mod Cells
+pub mod Words
+pub mod Step
+pub mod StepRules
+pub mod Map
+pub mod TotalsRule
+pub mod Refusals
+pub mod Run
+pub mod Cases

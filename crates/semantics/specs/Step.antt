@@ -1,0 +1,246 @@
+-- Document 01, "What one step does": one atomic step on the one cell that it reads, an entry of the schedule, and the run.
+-- StepRules.antt has the document's own lines beside these definitions.
+-- Assumes nothing.
+use Prim.Native.Nat.{ℕ, suc, _+_, _%_}
+use mathlib.Core.Bool.{Bool, true, false, cond, _&&_}
+use mathlib.Core.List.{List, [], _∷_, _++_, map}
+use mathlib.Core.Option.{Option, none, some}
+use lib.Dec.{eqb}
+use lib.ListN.{getD, set, getElem?}
+use Rattle.semantics.specs.Cells.{Setting, Cell, empty, tombstone, live, Kind, find, insert, update, add, remove, Operation}
+use Rattle.semantics.specs.Cells.{Answer, found, present, changed, removed, inserted, absent, full}
+
+-- What an operation of key k sees in a cell: its own key, an empty cell, or "another key or a tombstone".
+pub data Sight (T : Type 0) : Type 0 where
+  own : T → Sight T
+  free other : Sight T
+
+unfoldable pub sight : {T : Type 0} → ℕ → Cell T → Sight T
+sight k empty = free
+sight k tombstone = other
+sight k (live j t) = cond (eqb k j) (own t) other
+
+-- The word that an operation holds: the empty word, or its own key with a total.
+pub data Held (T : Type 0) : Type 0 where
+  vacant : Held T
+  mine : T → Held T
+
+-- "A row's record turns in one of four ways: it passes to the following cell, holds a word it has seen, loses its swap, or finishes."
+pub data Turn (T : Type 0) : Type 0 where
+  passes loses : Turn T
+  holds : Held T → Turn T
+  finishes : Answer T → Turn T
+
+-- Where an operation stands, by how many cells it has passed (document 01: a row's record).
+pub data Pending (T : Type 0) : Type 0 where
+  reading : ℕ → Pending T
+  holding : ℕ → Held T → Pending T
+
+pub data State (T : Type 0) : Type 0 where
+  pending : Pending T → State T
+  finished : Answer T → State T
+
+-- What an operation does to the total of its key: it stays, becomes another, or ends with the key's removal.
+pub data Fate (T : Type 0) : Type 0 where
+  stays ends : Fate T
+  becomes : T → Fate T
+
+pub record Effect (T : Type 0) : Type 0 where
+  pub fate : Fate T
+  pub answer : Answer T
+
+-- what one step leaves in its cell, and how its operation's record turns
+pub record Stepped (T : Type 0) : Type 0 where
+  pub cell : Cell T
+  pub turn : Turn T
+
+-- "insert and add hold the empty word", "insert and add finish full": the kinds that make a missing key
+unfoldable pub makes : Kind → Bool
+makes find = false
+makes insert = true
+makes update = false
+makes add = true
+makes remove = false
+
+-- "It begins reading at the key's home, with 0 cells passed."
+unfoldable pub fresh : {T : Type 0} → State T
+fresh = pending (reading 0)
+
+-- where an operation stands after a turn, with p cells passed before it
+unfoldable pub after : {T : Type 0} → ℕ → Turn T → State T
+after p passes = pending (reading (suc p))
+after p (holds h) = pending (holding p h)
+after p loses = pending (reading p)
+after p (finishes a) = finished a
+
+-- an operation and where it stands; the cells, all operations, the log of those that finished, and the counts of lost swaps and idle entries
+pub record Row (T : Type 0) : Type 0 where
+  pub operation : Operation T
+  pub state : State T
+
+pub record Machine (T : Type 0) : Type 0 where
+  pub cells : List (Cell T)
+  pub rows : List (Row T)
+  pub log : List ℕ
+  pub lost : ℕ
+  pub idle : ℕ
+
+-- "the swap is lost, counted"
+unfoldable pub countLost : {T : Type 0} → Turn T → ℕ → ℕ
+countLost passes n = n
+countLost (holds h) n = n
+countLost loses n = suc n
+countLost (finishes a) n = n
+
+-- "A row enters the log at the step that finishes it."
+unfoldable pub logged : {T : Type 0} → Turn T → ℕ → List ℕ → List ℕ
+logged passes i l = l
+logged (holds h) i l = l
+logged loses i l = l
+logged (finishes a) i l = l ++ (i ∷ [])
+
+-- "An entry naming a finished row changes nothing and is counted idle."
+unfoldable pub idled : {T : Type 0} → Machine T → Machine T
+idled m = record { cells = m .cells; rows = m .rows; log = m .log; lost = m .lost; idle = suc (m .idle) }
+
+unfoldable pub foldl : {A B : Type 0} → (B → A → B) → B → List A → B
+foldl f b [] = b
+foldl f b (a ∷ more) = foldl f (f b a) more
+
+-- an operation's answer once it has finished
+unfoldable pub answered : {T : Type 0} → State T → Option (Answer T)
+answered (pending s) = none
+answered (finished a) = some a
+
+unfoldable pub answerIn : {T : Type 0} → Option (Row T) → Option (Answer T)
+answerIn none = none
+answerIn (some r) = answered (r .state)
+
+unfoldable pub isSome : {A : Type 0} → Option A → Bool
+isSome none = false
+isSome (some a) = true
+
+unfoldable pub finishedIn : {T : Type 0} → List (Row T) → ℕ → Bool
+finishedIn rows i = isSome (answerIn (getElem? rows i))
+
+-- "Finished rows are a set of 64 places, and the done count is its size."
+unfoldable pub doneCount : {T : Type 0} → List (Row T) → ℕ
+doneCount [] = 0
+doneCount (r ∷ rows) = cond (isSome (answered (r .state))) (suc (doneCount rows)) (doneCount rows)
+
+module _ (S : Setting) where
+  -- what find, insert, update, add and remove do where their key has total t, and what they answer
+  unfoldable pub effect : Kind → S .T → S .T → Effect (S .T)
+  effect find t amount = record { fate = stays; answer = found t }
+  effect insert t amount = record { fate = stays; answer = present t }
+  effect update t amount = record { fate = becomes amount; answer = changed t }
+  effect add t amount = record { fate = becomes (S .plus t amount); answer = changed t }
+  effect remove t amount = record { fate = ends; answer = removed t }
+
+  -- "The row's key": what leaves the total as it is finishes at the read, anything else holds the word
+  unfoldable pub readOwn : S .T → Answer (S .T) → Fate (S .T) → Turn (S .T)
+  readOwn t a stays = finishes a
+  readOwn t a ends = holds (mine t)
+  readOwn t a (becomes u) = holds (mine t)
+
+  -- "Reading, on the word now in the cell"
+  unfoldable pub read : Operation (S .T) → Sight (S .T) → Turn (S .T)
+  read o (own t) = let e = effect (o .kind) t (o .amount) in readOwn t (e .answer) (e .fate)
+  read o free = cond (makes (o .kind)) (holds vacant) (finishes absent)
+  read o other = passes
+
+  -- "one more cell is passed. If c are now passed, insert and add finish full and the others finish absent."
+  unfoldable pub exhausted : Kind → Answer (S .T)
+  exhausted k = cond (makes k) full absent
+
+  unfoldable pub bounded : Kind → ℕ → Turn (S .T) → Turn (S .T)
+  bounded k p passes = cond (eqb (suc p) (S .size)) (finishes (exhausted k)) passes
+  bounded k p loses = loses
+  bounded k p (holds h) = holds h
+  bounded k p (finishes a) = finishes a
+
+  -- the word that is held, as a cell
+  unfoldable pub heldCell : ℕ → Held (S .T) → Cell (S .T)
+  heldCell k vacant = empty
+  heldCell k (mine t) = live k t
+
+  -- "New words: .. update, the key and the amount; add, the key and the sum; remove, the tombstone."
+  unfoldable pub fateCell : ℕ → S .T → Fate (S .T) → Cell (S .T)
+  fateCell k t stays = live k t
+  fateCell k t ends = tombstone
+  fateCell k t (becomes u) = live k u
+
+  -- "New words: on an empty cell, the key and the amount (inserted)"; else by the operation's effect
+  unfoldable pub newCell : Operation (S .T) → Held (S .T) → Cell (S .T)
+  newCell o vacant = live (o .key) (o .amount)
+  newCell o (mine t) = fateCell (o .key) t (effect (o .kind) t (o .amount) .fate)
+
+  unfoldable pub swapAnswer : Operation (S .T) → Held (S .T) → Answer (S .T)
+  swapAnswer o vacant = inserted
+  swapAnswer o (mine t) = effect (o .kind) t (o .amount) .answer
+
+  -- "if the cell still equals the held word": whole words are compared
+  unfoldable pub sameCell : Cell (S .T) → Cell (S .T) → Bool
+  sameCell empty empty = true
+  sameCell empty tombstone = false
+  sameCell empty (live j u) = false
+  sameCell tombstone empty = false
+  sameCell tombstone tombstone = true
+  sameCell tombstone (live j u) = false
+  sameCell (live k t) empty = false
+  sameCell (live k t) tombstone = false
+  sameCell (live k t) (live j u) = eqb k j && S .same t u
+
+  -- "the new word is stored and the row finishes. Otherwise the swap is lost, counted, and the row reads the same cell again"
+  unfoldable pub swapped : Operation (S .T) → Held (S .T) → Cell (S .T) → Bool → Stepped (S .T)
+  swapped o h x true = record { cell = newCell o h; turn = finishes (swapAnswer o h) }
+  swapped o h x false = record { cell = x; turn = loses }
+
+  -- one step of an operation, on the one cell that it reads
+  unfoldable pub step : Operation (S .T) → Pending (S .T) → Cell (S .T) → Stepped (S .T)
+  step o (reading p) x = record { cell = x; turn = bounded (o .kind) p (read o (sight (o .key) x)) }
+  step o (holding p h) x = swapped o h x (sameCell x (heldCell (o .key) h))
+
+  unfoldable pub passed : Pending (S .T) → ℕ
+  passed (reading p) = p
+  passed (holding p h) = p
+
+  -- "It begins reading at the key's home"; "The cell after c − 1 is cell 0."
+  unfoldable pub placeOf : ℕ → ℕ → ℕ
+  placeOf k p = (S .home k + p) % S .size
+
+  -- "One step changes the lent record of one row and at most one cell."
+  unfoldable pub taken : Machine (S .T) → ℕ → Operation (S .T) → Pending (S .T) → Machine (S .T)
+  taken m i o s =
+      let at = placeOf (o .key) (passed s) in
+      let r = step o s (getD (m .cells) at empty) in
+      record {
+        cells = set (m .cells) at (r .cell);
+        rows = set (m .rows) i (record { operation = o; state = after (passed s) (r .turn) });
+        log = logged (r .turn) i (m .log);
+        lost = countLost (r .turn) (m .lost);
+        idle = m .idle;
+      }
+
+  unfoldable pub act : Machine (S .T) → ℕ → Operation (S .T) → State (S .T) → Machine (S .T)
+  act m i o (pending s) = taken m i o s
+  act m i o (finished a) = idled m
+
+  -- one entry of the schedule, which names a row (a number that names none is idle too; refusal 6 turns it away)
+  unfoldable pub entered : Machine (S .T) → ℕ → Option (Row (S .T)) → Machine (S .T)
+  entered m i none = idled m
+  entered m i (some r) = act m i (r .operation) (r .state)
+
+  unfoldable pub entry : Machine (S .T) → ℕ → Machine (S .T)
+  entry m i = entered m i (getElem? (m .rows) i)
+
+  -- "Before the first entry the cells are the starting cells, as lent to the run, and no row has taken a step."
+  unfoldable pub freshRow : Operation (S .T) → Row (S .T)
+  freshRow o = record { operation = o; state = fresh }
+
+  unfoldable pub begin : List (Cell (S .T)) → List (Operation (S .T)) → Machine (S .T)
+  begin cells ops = record { cells = cells; rows = map freshRow ops; log = []; lost = 0; idle = 0 }
+
+  -- "Each entry does what the step rules say, on the cells and row records that the one before left; nothing else changes them."
+  unfoldable pub run : List (Cell (S .T)) → List (Operation (S .T)) → List ℕ → Machine (S .T)
+  run cells ops schedule = foldl entry (begin cells ops) schedule

@@ -1,0 +1,82 @@
+-- Document 01, "The totals rule, which is demand 3": one claim about a whole schedule. proofs/Totals.antt proves it.
+-- Assumes nothing.
+use mathlib.Core.Path.{_≡_}
+use Prim.Native.Nat.{ℕ, suc, _+_, _≤_}
+use mathlib.Core.Bool.{Bool, true, false, cond, _&&_, _||_, not}
+use mathlib.Core.List.{List, [], _∷_}
+use mathlib.Core.Option.{Option, none, some}
+use lib.Dec.{T, eqb, leb}
+use lib.ListN.{length}
+use Rattle.semantics.specs.Cells.{Setting, Cell, Kind, find, insert, update, add, remove, Operation, lookup, usedCells}
+use Rattle.semantics.specs.Step.{run, isSome, doneCount}
+
+unfoldable pub isAdd : Kind → Bool
+isAdd find = false
+isAdd insert = false
+isAdd update = false
+isAdd add = true
+isAdd remove = false
+
+-- "only finds and adds"
+unfoldable pub isFindOrAdd : Kind → Bool
+isFindOrAdd find = true
+isFindOrAdd insert = false
+isFindOrAdd update = false
+isFindOrAdd add = true
+isFindOrAdd remove = false
+
+unfoldable pub onlyFindsAndAdds : {T : Type 0} → List (Operation T) → Bool
+onlyFindsAndAdds [] = true
+onlyFindsAndAdds (o ∷ ops) = isFindOrAdd (o .kind) && onlyFindsAndAdds ops
+
+-- "A room .. is present in the starting or final cells if one of them has its key"
+unfoldable pub isPresent : {T : Type 0} → List (Cell T) → ℕ → Bool
+isPresent cells k = isSome (lookup k cells)
+
+-- whether an operation adds to room k
+unfoldable pub addsTo : {T : Type 0} → ℕ → Operation T → Bool
+addsTo k o = isAdd (o .kind) && eqb k (o .key)
+
+-- "A room is added if a row of kind add names it, with amount 0 too."
+unfoldable pub isAdded : {T : Type 0} → ℕ → List (Operation T) → Bool
+isAdded k [] = false
+isAdded k (o ∷ ops) = addsTo k o || isAdded k ops
+
+-- "The amounts added to it are those of such rows, each row once however many entries name it"
+unfoldable pub amountsAdded : {T : Type 0} → ℕ → List (Operation T) → List T
+amountsAdded k [] = []
+amountsAdded k (o ∷ ops) = cond (addsTo k o) (o .amount ∷ amountsAdded k ops) (amountsAdded k ops)
+
+-- "an added room counts once, and only if not present in the starting cells": counted at the last row that adds to it
+unfoldable pub countsAt : {T : Type 0} → (ℕ → Bool) → Operation T → List (Operation T) → Bool
+countsAt present o later = isAdd (o .kind) && (not (present (o .key)) && not (isAdded (o .key) later))
+
+unfoldable pub roomsToMake : {T : Type 0} → (ℕ → Bool) → List (Operation T) → ℕ
+roomsToMake present [] = 0
+roomsToMake present (o ∷ ops) = cond (countsAt present o ops) (suc (roomsToMake present ops)) (roomsToMake present ops)
+
+module _ (S : Setting) where
+  -- "In judging whether the cells suffice, a tombstone is not empty": the cells not empty and the rooms to make are at most c
+  unfoldable pub CellsSuffice : List (Cell (S .T)) → List (Operation (S .T)) → Type 0
+  CellsSuffice start ops = usedCells start + roomsToMake (isPresent start) ops ≤ S .size
+
+  -- "Every operation finishes if .. each row is finished by some entry, so that done equals the number of rows."
+  unfoldable pub EveryOperationFinishes : List (Cell (S .T)) → List (Operation (S .T)) → List ℕ → Type 0
+  EveryOperationFinishes start ops schedule = doneCount (run S start ops schedule .rows) ≡ length ops
+
+  -- "they and the starting total are summed as whole numbers before the sum is held": what a room has at the end, if anything
+  unfoldable pub expectedFrom : Option (S .T) → List (S .T) → Option (S .T)
+  expectedFrom (some t) added = some (S .sum t added)
+  expectedFrom none [] = none
+  expectedFrom none (a ∷ more) = some (S .sum a more)
+
+  unfoldable pub expected : List (Cell (S .T)) → List (Operation (S .T)) → ℕ → Option (S .T)
+  expected start ops k = expectedFrom (lookup k start) (amountsAdded k ops)
+
+  -- Demand 3: whoever picks the schedule, each room ends with its expected total, or is not there.
+  unfoldable pub TotalsRule : List (Cell (S .T)) → List (Operation (S .T)) → List ℕ → Type 0
+  TotalsRule start ops schedule =
+      T (onlyFindsAndAdds ops)
+      → EveryOperationFinishes start ops schedule
+      → CellsSuffice start ops
+      → (k : ℕ) → lookup k (run S start ops schedule .cells) ≡ expected start ops k
