@@ -1,0 +1,79 @@
+-- Lists: an element after a store, a last element more, a fold, and how often a number occurs.
+-- Assumes nothing.
+use mathlib.Core.Path.{_≡_, refl, ap, sym, _∙_}
+use Prim.Native.Nat.{ℕ, zero, suc}
+use mathlib.Core.Bool.{Bool, true, false, cond}
+use mathlib.Core.List.{List, [], _∷_, _++_, map}
+use mathlib.Core.Option.{Option, none, some}
+use native.Mathlib.Omega.{arith}
+use borrow.Author.Tests.{eqb-true, eqb-false, eq-eqb, ne-eqb}
+use lib.Dec.{eqb}
+use lib.ListN.{set, getElem?}
+use Rattle.semantics.specs.Step.{foldl}
+use Rattle.semantics.specs.Map.{occurs}
+
+pub none-some : {A : Type 0} {a : A} → none ≡ some a → ⊥
+none-some e = let z : _≡_ {A = ℕ} 0 1 = cc in omega arith
+
+pub true-false : true ≡ false → ⊥
+true-false e = let z : _≡_ {A = ℕ} 0 1 = cc in omega arith
+
+module _ {A : Type 0} where
+  pub elem-set-same : (l : List A) (i : ℕ) {a : A} (b : A) → getElem? l i ≡ some a → getElem? (set l i b) i ≡ some b
+  elem-set-same [] i b e = absurd (none-some e)
+  elem-set-same (x ∷ l) zero b e = refl
+  elem-set-same (x ∷ l) (suc i) b e = elem-set-same l i b e
+
+  pub elem-set-other : (l : List A) (i j : ℕ) (b : A) → (j ≡ i → ⊥) → getElem? (set l i b) j ≡ getElem? l j
+  elem-set-other [] i j b h = refl
+  elem-set-other (x ∷ l) zero zero b h = absurd (h refl)
+  elem-set-other (x ∷ l) zero (suc j) b h = refl
+  elem-set-other (x ∷ l) (suc i) zero b h = refl
+  elem-set-other (x ∷ l) (suc i) (suc j) b h = elem-set-other l i j b (λ e. h (ap suc e))
+
+module _ {A B : Type 0} (f : A → B) where
+  pub elem-map : (l : List A) (i : ℕ) {a : A} → getElem? l i ≡ some a → getElem? (map f l) i ≡ some (f a)
+  elem-map [] i e = absurd (none-some e)
+  elem-map (x ∷ l) zero {a} e = let h : x ≡ a = cc in ap (λ (y : A). some (f y)) h
+  elem-map (x ∷ l) (suc i) e = elem-map l i e
+
+  pub map-set-elem : (l : List A) (i : ℕ) {a : A} (b : A) → getElem? l i ≡ some a → f b ≡ f a → map f (set l i b) ≡ map f l
+  map-set-elem [] i b e h = refl
+  map-set-elem (x ∷ l) zero {a} b e h = let q : a ≡ x = cc in ap (λ (y : B). y ∷ map f l) (h ∙ ap f q)
+  map-set-elem (x ∷ l) (suc i) b e h = ap (λ (r : List B). f x ∷ r) (map-set-elem l i b e h)
+
+  pub map-snoc : (l : List A) (a : A) → map f (l ++ (a ∷ [])) ≡ map f l ++ (f a ∷ [])
+  map-snoc [] a = refl
+  map-snoc (x ∷ l) a = ap (λ (r : List B). f x ∷ r) (map-snoc l a)
+
+-- a fold over one element more is one step more
+pub foldl-snoc : {A B : Type 0} (f : B → A → B) (b : B) (l : List A) (a : A) → foldl f b (l ++ (a ∷ [])) ≡ f (foldl f b l) a
+unfolding foldl
+foldl-snoc f b [] a = refl
+foldl-snoc f b (x ∷ l) a = foldl-snoc f (f b x) l a
+
+-- counting twice, in either order
+cond-swap : (a b : Bool) (n : ℕ) → cond a (suc (cond b (suc n) n)) (cond b (suc n) n) ≡ cond b (suc (cond a (suc n) n)) (cond a (suc n) n)
+cond-swap true true n = refl
+cond-swap true false n = refl
+cond-swap false true n = refl
+cond-swap false false n = refl
+
+pub occurs-snoc : (i j : ℕ) (l : List ℕ) → occurs i (l ++ (j ∷ [])) ≡ cond (eqb i j) (suc (occurs i l)) (occurs i l)
+unfolding occurs
+occurs-snoc i j [] = refl
+occurs-snoc i j (x ∷ l) = rw (occurs-snoc i j l) (cond-swap (eqb i x) (eqb i j) (occurs i l))
+
+-- what a list maps to does not depend on the function at a number that does not occur in it
+pub map-without : {B : Type 0} (f g : ℕ → B) (i : ℕ) → ((j : ℕ) → (j ≡ i → ⊥) → f j ≡ g j) → (l : List ℕ) → occurs i l ≡ 0 → map f l ≡ map g l
+unfolding occurs
+map-without f g i h [] e = refl
+map-without {B} f g i h (x ∷ l) e = go (eqb i x) refl (λ q. map-without f g i h l q)
+  where
+    go : (z : Bool) → eqb i x ≡ z → (occurs i l ≡ 0 → map f l ≡ map g l) → f x ∷ map f l ≡ g x ∷ map g l
+    go true q ih = let s : suc (occurs i l) ≡ 0 = rw q at e in absurd (omega arith)
+    go false q ih =
+        let s : occurs i l ≡ 0 = rw q at e in
+        let d : f x ≡ g x = h x (λ w. eqb-false i x q (sym w)) in
+        let m : map f l ≡ map g l = ih s in
+        cc
