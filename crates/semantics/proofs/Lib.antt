@@ -2,3 +2,4 @@ pub mod Cases
 pub mod Laws
 pub mod Lists
 pub mod Table
+pub mod Steps

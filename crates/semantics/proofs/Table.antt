@@ -125,13 +125,23 @@ module _ (S : Setting) where
         | no q ↦ absurd (none-some (sym (elsewhere j q) ∙ e))
       ]
 
+  pub own-alone : {cells : List (Cell (S .T))} {k : ℕ} {o : Option (S .T)} (i : ℕ) (t : S .T) → Located cells k o → keyed k (getD cells i empty) ≡ some t
+      → (j : ℕ) → (j ≡ i → ⊥) → keyed k (getD cells j empty) ≡ none
+  own-alone i t (lacks none-of) e j ne = none-of j
+  own-alone {cells} {k} i t (has d l at before elsewhere) e j ne =
+      elim (ℕ-discrete i (placeOf S k d)) [
+        | yes q ↦ elsewhere j (λ r. ne (r ∙ sym q))
+        | no q ↦ absurd (none-some (sym (elsewhere i q) ∙ e))
+      ]
+
   pub own-place : {cells : List (Cell (S .T))} {k : ℕ} {o : Option (S .T)} (i j : ℕ) (t u : S .T)
       → Located cells k o → keyed k (getD cells i empty) ≡ some t → keyed k (getD cells j empty) ≡ some u → i ≡ j
-  own-place i j t u (lacks none-of) e f = absurd (none-some (sym (none-of i) ∙ e))
-  own-place {cells} {k} i j t u (has d h at before elsewhere) e f = there i t e ∙ sym (there j u f)
-    where
-      there : (n : ℕ) (v : S .T) → keyed k (getD cells n empty) ≡ some v → n ≡ placeOf S k d
-      there n v g = elim (ℕ-discrete n (placeOf S k d)) [ yes q ↦ q | no q ↦ absurd (none-some (sym (elsewhere n q) ∙ g)) ]
+  own-place i j t u at e f =
+      elim (ℕ-discrete i j) [ yes q ↦ q | no q ↦ absurd (none-some (sym (own-alone j u at f i q) ∙ e)) ]
+
+  pub missing-alone : {cells : List (Cell (S .T))} {k : ℕ} {o : Option (S .T)} → Located cells k o → o ≡ none → (j : ℕ) → keyed k (getD cells j empty) ≡ none
+  missing-alone (lacks none-of) e j = none-of j
+  missing-alone (has {t = t} d l at before elsewhere) e j = absurd (none-some (sym e))
 
   pub located-lookup : {cells : List (Cell (S .T))} {k : ℕ} {o : Option (S .T)} → Located cells k o → lookup k cells ≡ o
   located-lookup {cells} {k} {o} at = go (looked k cells)
