@@ -3,3 +3,4 @@ pub mod Laws
 pub mod Lists
 pub mod Table
 pub mod Steps
+pub mod Linearizability

@@ -1,0 +1,301 @@
+-- Demand 2: any run of accepted cells, after any number of entries, is the one-at-a-time map doing the logged operations in log order.
+-- Assumes nothing.
+use mathlib.Core.Path.{_≡_, refl, ap, ap₂, sym, _∙_, subst, subst₃}
+use Prim.Native.Nat.{ℕ, zero, suc, _+_, _<_}
+use mathlib.Core.Bool.{Bool, true, false, cond}
+use mathlib.Core.List.{List, [], _∷_, _++_, map}
+use mathlib.Core.Option.{Option, none, some}
+use native.Mathlib.Omega.{arith}
+use native.Mathlib.Decide.{ℕ-discrete}
+use native.Mathlib.Nat.{not-suc-le-zero}
+use borrow.Author.Tests.{eqb-true, eqb-false, eq-eqb, ne-eqb}
+use lib.Dec.{eqb}
+use lib.ListN.{length, getD, set, getElem?, length-append}
+use lib.Seq.{set-getD}
+use Rattle.semantics.specs.Cells.{Setting, Cell, empty, Operation, Answer, keyed, lookup, usedCells}
+use Rattle.semantics.specs.Step.{Turn, finishes, Pending, reading, holding, State, pending, finished, Row, Machine, Stepped, fresh, after, logged, countLost, idled, foldl, answered, answerIn, isSome, finishedIn, doneCount}
+use Rattle.semantics.specs.Step.{step, passed, placeOf, taken, act, entered, entry, freshRow, begin, run}
+use Rattle.semantics.specs.Map.{Map, Done, Replay, mapOf, occurs, performed, noted, replayOne, replay, Linearizable}
+use Rattle.semantics.proofs.Laws.{Lawful, Accepted}
+use Rattle.semantics.proofs.Lists.{none-some, true-false, elem-set-same, elem-set-other, elem-map, map-set-elem, map-snoc, foldl-snoc, occurs-snoc, map-without}
+use Rattle.semantics.proofs.Table.{Agrees, Probed, own-place, located-lookup, size-pos, start-agrees}
+use Rattle.semantics.proofs.Steps.{Standing, Advance, goes-on, completes, advance}
+
+module _ {T : Type 0} where
+  -- no row has finished at the outset
+  fresh-rows : (ops : List (Operation T)) (i : ℕ) (f : Operation T → Row T) → ((o : Operation T) → answered (f o .state) ≡ none) → answerIn (getElem? (map f ops) i) ≡ none
+  unfolding answerIn
+  fresh-rows [] i f h = refl
+  fresh-rows (o ∷ ops) zero f h = h o
+  fresh-rows (o ∷ ops) (suc i) f h = fresh-rows ops i f h
+
+  -- the count of finished rows, after one of them is stored anew
+  count-same : (rows : List (Row T)) (i : ℕ) {r : Row T} (r′ : Row T) → getElem? rows i ≡ some r → isSome (answered (r′ .state)) ≡ isSome (answered (r .state))
+      → doneCount (set rows i r′) ≡ doneCount rows
+  unfolding doneCount
+  count-same [] i r′ e h = refl
+  count-same (x ∷ rows) zero {r} r′ e h = let q : r ≡ x = cc in rw (h, q)
+  count-same (x ∷ rows) (suc i) r′ e h = rw (count-same rows i r′ e h)
+
+  count-more : (rows : List (Row T)) (i : ℕ) {r : Row T} (r′ : Row T) → getElem? rows i ≡ some r → isSome (answered (r .state)) ≡ false → isSome (answered (r′ .state)) ≡ true
+      → doneCount (set rows i r′) ≡ suc (doneCount rows)
+  unfolding doneCount
+  count-more [] i r′ e h h′ = absurd (none-some e)
+  count-more (x ∷ rows) zero {r} r′ e h h′ = let q : x ≡ r = cc in rw (h′, q, h)
+  count-more (x ∷ rows) (suc i) r′ e h h′ = rw (count-more rows i r′ e h h′) (go (isSome (answered (x .state))))
+    where
+      go : (z : Bool) → cond z (suc (suc (doneCount rows))) (suc (doneCount rows)) ≡ suc (cond z (suc (doneCount rows)) (doneCount rows))
+      go true = refl
+      go false = refl
+
+module _ (S : Setting) (L : Lawful S) (start : List (Cell (S .T))) (ops : List (Operation (S .T))) where
+  unfoldable StandsIn : List (Cell (S .T)) → Operation (S .T) → State (S .T) → Type 0
+  StandsIn cells o (pending s) = Standing S L cells o s
+  StandsIn cells o (finished a) = Unit {0}
+
+  -- what holds after any number of entries
+  record Holds (cells : List (Cell (S .T))) (rows : List (Row (S .T))) (log : List ℕ) : Type 0 where
+    agrees : Agrees S cells (replay S start ops log .now)
+    answers : map (λ i. answerIn (getElem? rows i)) log ≡ map some (replay S start ops log .answers)
+    once : (i : ℕ) → occurs i log ≡ cond (finishedIn rows i) 1 0
+    counted : doneCount rows ≡ length log
+    operations : map (λ (r : Row (S .T)). r .operation) rows ≡ ops
+    standing : (i : ℕ) (r : Row (S .T)) → getElem? rows i ≡ some r → StandsIn cells (r .operation) (r .state)
+
+  none-done : (l : List (Operation (S .T))) → doneCount (map (freshRow S) l) ≡ 0
+  unfolding doneCount freshRow fresh answered isSome
+  none-done [] = refl
+  none-done (o ∷ l) = none-done l
+
+  same-operations : (l : List (Operation (S .T))) → map (λ (r : Row (S .T)). r .operation) (map (freshRow S) l) ≡ l
+  unfolding freshRow
+  same-operations [] = refl
+  same-operations (o ∷ l) = ap (λ (t : List (Operation (S .T))). o ∷ t) (same-operations l)
+
+  at-home : (o : Operation (S .T)) → StandsIn start o fresh
+  unfolding StandsIn Standing fresh
+  at-home o =
+      record {
+        below = size-pos S L;
+        foreign = λ e h. absurd (not-suc-le-zero h);
+        filled = λ e h. absurd (not-suc-le-zero h);
+      }
+
+  all-at-home : (l : List (Operation (S .T))) (i : ℕ) (r : Row (S .T)) → getElem? (map (freshRow S) l) i ≡ some r → StandsIn start (r .operation) (r .state)
+  unfolding freshRow
+  all-at-home [] i r e = absurd (none-some e)
+  all-at-home (o ∷ l) zero r e =
+      let q : record { operation = o; state = fresh } ≡ r = cc in
+      subst (λ (x : Row (S .T)). StandsIn start (x .operation) (x .state)) q (at-home o)
+  all-at-home (o ∷ l) (suc i) r e = all-at-home l i r e
+
+  holds-first : Accepted S start → Holds start (map (freshRow S) ops) []
+  unfolding replay foldl occurs freshRow fresh finishedIn answered isSome
+  holds-first ok =
+      record {
+        agrees = start-agrees S L start ok;
+        answers = refl;
+        once = λ i. rw (fresh-rows ops i (freshRow S) (λ o. refl));
+        counted = none-done ops;
+        operations = same-operations ops;
+        standing = all-at-home ops;
+      }
+
+  module _ (cells : List (Cell (S .T))) (rows : List (Row (S .T))) (log : List ℕ) (H : Holds cells rows log) (i : ℕ) (r : Row (S .T)) (at : getElem? rows i ≡ some r) where
+    -- the log of a row that has not finished does not have it yet
+    not-logged : isSome (answered (r .state)) ≡ false → occurs i log ≡ 0
+    unfolding finishedIn answerIn
+    not-logged h = H .once i ∙ rw (at, h)
+
+    answer-set : (r′ : Row (S .T)) (j : ℕ) → (j ≡ i → ⊥) → answerIn (getElem? (set rows i r′) j) ≡ answerIn (getElem? rows j)
+    answer-set r′ j ne = rw (elem-set-other rows i j r′ ne)
+
+    finished-set : (r′ : Row (S .T)) (j : ℕ) → (j ≡ i → ⊥) → finishedIn (set rows i r′) j ≡ finishedIn rows j
+    unfolding finishedIn
+    finished-set r′ j ne = rw (answer-set r′ j ne)
+
+    finished-here : (r′ : Row (S .T)) → finishedIn (set rows i r′) i ≡ isSome (answered (r′ .state))
+    unfolding finishedIn answerIn
+    finished-here r′ = rw (elem-set-same rows i r′ at)
+
+    was : finishedIn rows i ≡ isSome (answered (r .state))
+    unfolding finishedIn answerIn
+    was = rw at
+
+    -- the rows stand as before, but for row i, which is r′ now; the cells may have changed by a store that every probe outlives
+    standing-set : (cells′ : List (Cell (S .T))) (r′ : Row (S .T)) → ((k p : ℕ) → Probed S cells k p → Probed S cells′ k p)
+        → StandsIn cells′ (r′ .operation) (r′ .state) → (j : ℕ) (x : Row (S .T)) → getElem? (set rows i r′) j ≡ some x → StandsIn cells′ (x .operation) (x .state)
+    unfolding StandsIn Standing
+    standing-set cells′ r′ keeps new j x e =
+        elim (ℕ-discrete j i) [
+          | yes q ↦
+              let f : some r′ ≡ some x = sym (elem-set-same rows i r′ at) ∙ ap (λ (n : ℕ). getElem? (set rows i r′) n) (sym q) ∙ e in
+              let same : r′ ≡ x = cc in
+              subst (λ (y : Row (S .T)). StandsIn cells′ (y .operation) (y .state)) same new
+          | no q ↦ keep (x .operation) (x .state) (H .standing j x (sym (elem-set-other rows i j r′ q) ∙ e))
+        ]
+      where
+        keep : (o : Operation (S .T)) (s : State (S .T)) → StandsIn cells o s → StandsIn cells′ o s
+        keep o (pending (reading p)) h = keeps (o .key) p h
+        keep o (pending (holding p w)) h = (keeps (o .key) p (h .0), h .1)
+        keep o (finished a) h = tt
+
+    rows-kept : (r′ : Row (S .T)) → r′ .operation ≡ r .operation → map (λ (x : Row (S .T)). x .operation) (set rows i r′) ≡ ops
+    rows-kept r′ e = map-set-elem (λ (x : Row (S .T)). x .operation) rows i r′ at e ∙ H .operations
+
+    answers-kept : (r′ : Row (S .T)) → isSome (answered (r .state)) ≡ false
+        → map (λ j. answerIn (getElem? (set rows i r′) j)) log ≡ map some (replay S start ops log .answers)
+    answers-kept r′ h = map-without (λ j. answerIn (getElem? (set rows i r′) j)) (λ j. answerIn (getElem? rows j)) i (answer-set r′) log (not-logged h) ∙ H .answers
+
+    -- the row goes on
+    holds-on : (s : Pending (S .T)) → isSome (answered (r .state)) ≡ false → Standing S L cells (r .operation) s
+        → Holds cells (set rows i (record { operation = r .operation; state = pending s })) log
+    unfolding StandsIn answered isSome
+    holds-on s h st =
+        record {
+          agrees = H .agrees;
+          answers = answers-kept r′ h;
+          once = λ j. H .once j ∙ ap (λ (z : Bool). cond z 1 0) (sym (same j));
+          counted = count-same rows i r′ at (sym h) ∙ H .counted;
+          operations = rows-kept r′ refl;
+          standing = standing-set cells r′ (λ k p q. q) st;
+        }
+      where
+        r′ : Row (S .T)
+        r′ = record { operation = r .operation; state = pending s }
+
+        same : (j : ℕ) → finishedIn (set rows i r′) j ≡ finishedIn rows j
+        same j =
+            elim (ℕ-discrete j i) [
+              | yes q ↦ ap (λ (n : ℕ). finishedIn (set rows i r′) n) q ∙ finished-here r′ ∙ sym h ∙ sym was ∙ ap (λ (n : ℕ). finishedIn rows n) (sym q)
+              | no q ↦ finished-set r′ j q
+            ]
+
+    -- the row finishes, as the map does its operation
+    replay-more : replay S start ops (log ++ (i ∷ [])) ≡ noted S (replay S start ops log) (performed S (replay S start ops log .now) (r .operation))
+    unfolding replay replayOne
+    replay-more =
+        foldl-snoc (λ b j. replayOne S b (getElem? ops j)) (record { now = mapOf start; answers = [] }) log i
+        ∙ ap (λ (o : Option (Operation (S .T))). replayOne S (replay S start ops log) o) named
+      where
+        named : getElem? ops i ≡ some (r .operation)
+        named = ap (λ (l : List (Operation (S .T))). getElem? l i) (sym (H .operations)) ∙ elem-map (λ (x : Row (S .T)). x .operation) rows i at
+
+    holds-more : (cells′ : List (Cell (S .T))) (a : Answer (S .T)) → isSome (answered (r .state)) ≡ false
+        → a ≡ performed S (replay S start ops log .now) (r .operation) .answer
+        → Agrees S cells′ (performed S (replay S start ops log .now) (r .operation) .after)
+        → ((k p : ℕ) → Probed S cells k p → Probed S cells′ k p)
+        → Holds cells′ (set rows i (record { operation = r .operation; state = finished a })) (log ++ (i ∷ []))
+    unfolding noted StandsIn answered answerIn isSome
+    holds-more cells′ a h e agrees keeps =
+        record {
+          agrees = subst (λ (b : Replay (S .T)). Agrees S cells′ (b .now)) (sym replay-more) agrees;
+          answers = answers′;
+          once = λ j. occurs-snoc j i log ∙ once′ j (eqb j i) refl;
+          counted = count-more rows i r′ at h refl ∙ ap suc (H .counted) ∙ one-more;
+          operations = rows-kept r′ refl;
+          standing = standing-set cells′ r′ keeps tt;
+        }
+      where
+        r′ : Row (S .T)
+        r′ = record { operation = r .operation; state = finished a }
+
+        f : ℕ → Option (Answer (S .T))
+        f j = answerIn (getElem? (set rows i r′) j)
+
+        here : f i ≡ some a
+        here = ap answerIn (elem-set-same rows i r′ at)
+
+        answers′ : map f (log ++ (i ∷ [])) ≡ map some (replay S start ops (log ++ (i ∷ [])) .answers)
+        answers′ =
+            map-snoc f log i
+            ∙ ap₂ (λ (l : List (Option (Answer (S .T)))) (x : Option (Answer (S .T))). l ++ (x ∷ [])) (answers-kept r′ h) (here ∙ ap some e)
+            ∙ sym (map-snoc some (replay S start ops log .answers) (performed S (replay S start ops log .now) (r .operation) .answer))
+            ∙ ap (λ (b : Replay (S .T)). map some (b .answers)) (sym replay-more)
+
+        once′ : (j : ℕ) (z : Bool) → eqb j i ≡ z → cond z (suc (occurs j log)) (occurs j log) ≡ cond (finishedIn (set rows i r′) j) 1 0
+        once′ j true q =
+            let k : j ≡ i = eqb-true j i q in
+            rw (k, not-logged h, finished-here r′)
+        once′ j false q = H .once j ∙ ap (λ (z : Bool). cond z 1 0) (sym (finished-set r′ j (eqb-false j i q)))
+
+        one-more : suc (length log) ≡ length (log ++ (i ∷ []))
+        one-more = rw (length-append log (i ∷ [])) (omega arith)
+
+    -- so a step keeps all of it, whatever it comes to
+    holds-step : isSome (answered (r .state)) ≡ false → (p cell : ℕ) (q : Stepped (S .T)) → Advance S L cells (replay S start ops log .now) (r .operation) p cell q
+        → Holds (set cells cell (q .cell)) (set rows i (record { operation = r .operation; state = after p (q .turn) })) (logged (q .turn) i log)
+    unfolding after logged
+    holds-step h p cell q (goes-on s same turn quiet st) =
+        subst₃ (λ (c : List (Cell (S .T))) (x : State (S .T)) (l : List ℕ). Holds c (set rows i (record { operation = r .operation; state = x })) l)
+        (sym (ap (λ (y : Cell (S .T)). set cells cell y) same ∙ set-getD cells cell empty)) (sym turn) (sym (quiet i log)) (holds-on s h st)
+    holds-step h p cell q (completes turn agrees keeps) =
+        subst (λ (t : Turn (S .T)). Holds (set cells cell (q .cell)) (set rows i (record { operation = r .operation; state = after p t })) (logged t i log))
+        (sym turn) (holds-more (set cells cell (q .cell)) (performed S (replay S start ops log .now) (r .operation) .answer) h refl agrees keeps)
+
+    -- and leaves the cells as they were, unless it finishes the row
+    step-untouched : isSome (answered (r .state)) ≡ false → (p cell : ℕ) (q : Stepped (S .T)) → Advance S L cells (replay S start ops log .now) (r .operation) p cell q
+        → finishedIn (set rows i (record { operation = r .operation; state = after p (q .turn) })) i ≡ finishedIn rows i → set cells cell (q .cell) ≡ cells
+    unfolding after answered isSome
+    step-untouched h p cell q (goes-on s same turn quiet st) e = ap (λ (y : Cell (S .T)). set cells cell y) same ∙ set-getD cells cell empty
+    step-untouched h p cell q (completes turn agrees keeps) e =
+        absurd (true-false (ap (λ (t : Turn (S .T)). isSome (answered (after p t))) (sym turn) ∙ sym (finished-here (record { operation = r .operation; state = after p (q .turn) })) ∙ e ∙ was ∙ h))
+
+  unfoldable HoldsOf : Machine (S .T) → Type 0
+  HoldsOf m = Holds (m .cells) (m .rows) (m .log)
+
+  -- what follows of each entry: an idle one changes nothing, any other is a step
+  module _ (P : Machine (S .T) → Type 0) (m : Machine (S .T)) (H : HoldsOf m) (i : ℕ) (idle : P (idled m))
+      (steps : (r : Row (S .T)) (s : Pending (S .T)) → getElem? (m .rows) i ≡ some r → isSome (answered (r .state)) ≡ false
+      → Advance S L (m .cells) (replay S start ops (m .log) .now) (r .operation) (passed S s) (placeOf S (r .operation .key) (passed S s))
+      (step S (r .operation) s (getD (m .cells) (placeOf S (r .operation .key) (passed S s)) empty))
+      → P (taken S m i (r .operation) s)) where
+    by-entry : P (entry S m i)
+    unfolding HoldsOf entry entered act StandsIn answered isSome
+    by-entry = named (getElem? (m .rows) i) refl
+      where
+        acts : (r : Row (S .T)) → getElem? (m .rows) i ≡ some r → (s : State (S .T)) → r .state ≡ s → P (act S m i (r .operation) s)
+        acts r at (finished a) e = idle
+        acts r at (pending s) e =
+            steps r s at (rw e)
+            (advance S L (m .cells) (replay S start ops (m .log) .now) (H .agrees) (r .operation) s
+            (subst (λ (x : State (S .T)). StandsIn (m .cells) (r .operation) x) e (H .standing i r at)))
+
+        named : (o : Option (Row (S .T))) → getElem? (m .rows) i ≡ o → P (entered S m i o)
+        named none at = idle
+        named (some r) at = acts r at (r .state) refl
+
+  holds-entry : (m : Machine (S .T)) → HoldsOf m → (i : ℕ) → HoldsOf (entry S m i)
+  unfolding HoldsOf idled taken
+  holds-entry m H i =
+      by-entry HoldsOf m H i H
+      (λ r s at h adv. holds-step (m .cells) (m .rows) (m .log) H i r at h (passed S s) (placeOf S (r .operation .key) (passed S s))
+      (step S (r .operation) s (getD (m .cells) (placeOf S (r .operation .key) (passed S s)) empty)) adv)
+
+  entry-untouched : (m : Machine (S .T)) → HoldsOf m → (i : ℕ) → finishedIn (entry S m i .rows) i ≡ finishedIn (m .rows) i → entry S m i .cells ≡ m .cells
+  unfolding HoldsOf idled taken
+  entry-untouched m H i =
+      by-entry (λ (n : Machine (S .T)). finishedIn (n .rows) i ≡ finishedIn (m .rows) i → n .cells ≡ m .cells) m H i (λ e. refl)
+      (λ r s at h adv. step-untouched (m .cells) (m .rows) (m .log) H i r at h (passed S s) (placeOf S (r .operation .key) (passed S s))
+      (step S (r .operation) s (getD (m .cells) (placeOf S (r .operation .key) (passed S s)) empty)) adv)
+
+  holds-run : (m : Machine (S .T)) → HoldsOf m → (schedule : List ℕ) → HoldsOf (foldl (entry S) m schedule)
+  unfolding foldl
+  holds-run m H [] = H
+  holds-run m H (i ∷ schedule) = holds-run (entry S m i) (holds-entry m H i) schedule
+
+  pub linearizable : Accepted S start → (schedule : List ℕ) → Linearizable S start ops schedule
+  unfolding HoldsOf run begin
+  linearizable ok schedule =
+      record {
+        answers = H .answers;
+        pairs = λ k. located-lookup S (H .agrees .located k);
+        used = H .agrees .used;
+        distinct = λ k i j t u. own-place S i j t u (H .agrees .located k);
+        once = H .once;
+        counted = H .counted;
+        untouched = entry-untouched (run S start ops schedule) H;
+      }
+    where
+      H : HoldsOf (run S start ops schedule)
+      H = holds-run (begin S start ops) (holds-first ok) schedule
