@@ -4,3 +4,5 @@ pub mod Lists
 pub mod Table
 pub mod Steps
 pub mod Linearizability
+pub mod Orders
+pub mod TotalsHold

@@ -284,10 +284,11 @@ module _ (S : Setting) (L : Lawful S) (start : List (Cell (S .T))) (ops : List (
   holds-run m H [] = H
   holds-run m H (i ∷ schedule) = holds-run (entry S m i) (holds-entry m H i) schedule
 
-  pub linearizable : Accepted S start → (schedule : List ℕ) → Linearizable S start ops schedule
+  pub linearizable : Accepted S start → (schedule : List ℕ) → Linearizable S start ops (run S start ops schedule)
   unfolding HoldsOf run begin
   linearizable ok schedule =
       record {
+        operations = H .operations;
         answers = H .answers;
         pairs = λ k. located-lookup S (H .agrees .located k);
         used = H .agrees .used;

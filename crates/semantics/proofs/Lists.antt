@@ -53,7 +53,7 @@ foldl-snoc f b [] a = refl
 foldl-snoc f b (x ∷ l) a = foldl-snoc f (f b x) l a
 
 -- counting twice, in either order
-cond-swap : (a b : Bool) (n : ℕ) → cond a (suc (cond b (suc n) n)) (cond b (suc n) n) ≡ cond b (suc (cond a (suc n) n)) (cond a (suc n) n)
+pub cond-swap : (a b : Bool) (n : ℕ) → cond a (suc (cond b (suc n) n)) (cond b (suc n) n) ≡ cond b (suc (cond a (suc n) n)) (cond a (suc n) n)
 cond-swap true true n = refl
 cond-swap true false n = refl
 cond-swap false true n = refl

@@ -10,7 +10,7 @@ use lib.Dec.{eqb}
 use lib.ListN.{length, getD, getElem?}
 use Rattle.semantics.specs.Cells.{Setting, Cell, empty, Kind, find, insert, update, add, remove, Operation, lookup, usedCells, keyed}
 use Rattle.semantics.specs.Cells.{Answer, found, present, changed, removed, inserted, absent, full}
-use Rattle.semantics.specs.Step.{Machine, run, foldl, entry, answerIn, finishedIn, doneCount}
+use Rattle.semantics.specs.Step.{Row, Machine, foldl, entry, answerIn, finishedIn, doneCount}
 
 -- "It holds pairs and a number of used cells": each key's total, or none
 pub record Map (T : Type 0) : Type 0 where
@@ -84,24 +84,20 @@ module _ (S : Setting) where
   unfoldable pub replay : List (Cell (S .T)) → List (Operation (S .T)) → List ℕ → Replay (S .T)
   replay cells ops log = foldl (λ r i. replayOne r (getElem? ops i)) (record { now = mapOf cells; answers = [] }) log
 
-  -- Demand 2. The schedule is any list, so this speaks after any number of entries.
-  pub record Linearizable (start : List (Cell (S .T))) (ops : List (Operation (S .T))) (schedule : List ℕ) : Type 0 where
+  -- Demand 2, of a machine m that a run from the starting cells has come to, after any number of entries.
+  pub record Linearizable (start : List (Cell (S .T))) (ops : List (Operation (S .T))) (m : Machine (S .T)) : Type 0 where
+    -- the operations are those given
+    pub operations : map (λ (r : Row (S .T)). r .operation) (m .rows) ≡ ops
     -- every finished answer is the map's, the operations taken in log order
-    pub answers : map (λ i. answerIn (getElem? (run S start ops schedule .rows) i)) (run S start ops schedule .log)
-        ≡ map some (replay start ops (run S start ops schedule .log) .answers)
+    pub answers : map (λ i. answerIn (getElem? (m .rows) i)) (m .log) ≡ map some (replay start ops (m .log) .answers)
     -- the live pairs are the map's
-    pub pairs : (k : ℕ) → lookup k (run S start ops schedule .cells) ≡ replay start ops (run S start ops schedule .log) .now .pairs k
+    pub pairs : (k : ℕ) → lookup k (m .cells) ≡ replay start ops (m .log) .now .pairs k
     -- its used count is the number of cells not empty
-    pub used : usedCells (run S start ops schedule .cells) ≡ replay start ops (run S start ops schedule .log) .now .used
+    pub used : usedCells (m .cells) ≡ replay start ops (m .log) .now .used
     -- no key has two live cells
-    pub distinct : (k i j : ℕ) (t u : S .T)
-        → keyed k (getD (run S start ops schedule .cells) i empty) ≡ some t
-        → keyed k (getD (run S start ops schedule .cells) j empty) ≡ some u
-        → i ≡ j
+    pub distinct : (k i j : ℕ) (t u : S .T) → keyed k (getD (m .cells) i empty) ≡ some t → keyed k (getD (m .cells) j empty) ≡ some u → i ≡ j
     -- every finished operation is in the log exactly once, and no other is
-    pub once : (i : ℕ) → occurs i (run S start ops schedule .log) ≡ cond (finishedIn (run S start ops schedule .rows) i) 1 0
-    pub counted : doneCount (run S start ops schedule .rows) ≡ length (run S start ops schedule .log)
+    pub once : (i : ℕ) → occurs i (m .log) ≡ cond (finishedIn (m .rows) i) 1 0
+    pub counted : doneCount (m .rows) ≡ length (m .log)
     -- an entry that does not finish its operation leaves the cells as they were
-    pub untouched : (i : ℕ)
-        → finishedIn (entry S (run S start ops schedule) i .rows) i ≡ finishedIn (run S start ops schedule .rows) i
-        → entry S (run S start ops schedule) i .cells ≡ run S start ops schedule .cells
+    pub untouched : (i : ℕ) → finishedIn (entry S m i .rows) i ≡ finishedIn (m .rows) i → entry S m i .cells ≡ m .cells

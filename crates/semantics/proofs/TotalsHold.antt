@@ -1,0 +1,258 @@
+-- Demand 3: with only finds and adds, all finished and cells enough, each room ends with its expected total whatever the schedule was.
+-- It follows from demand 2: the log names each operation once, the sum does not depend on the order, and no add finds the table full.
+-- Assumes nothing.
+use mathlib.Core.Path.{_≡_, refl, ap, ap₂, sym, _∙_, subst}
+use Prim.Native.Nat.{ℕ, zero, suc, _+_, _≤_, _<_}
+use mathlib.Core.Bool.{Bool, true, false, cond, _&&_, _||_, not, and-false, or-true}
+use mathlib.Core.List.{List, [], _∷_, map}
+use mathlib.Core.Option.{Option, none, some}
+use native.Mathlib.Omega.{arith}
+use native.Mathlib.Nat.{suc-inj}
+use native.Mathlib.Decide.{ℕ-discrete}
+use borrow.Author.Tests.{eqb-true, eqb-false, eq-eqb, ne-eqb}
+use lib.Dec.{T as Holds, eqb}
+use lib.ListN.{length, getElem?, length-map}
+use Rattle.semantics.specs.Cells.{Setting, Cell, Kind, find, insert, update, add, remove, Operation, lookup, usedCells, absent, found, full, inserted, changed}
+use Rattle.semantics.specs.Step.{Row, Machine, foldl, isSome, answered, answerIn, finishedIn, doneCount, run}
+use Rattle.semantics.specs.Map.{Map, Done, Replay, withPair, unchanged, replaced, mapOf, occurs, stored, perform, performed, noted, replayOne, replay, Linearizable}
+use Rattle.semantics.specs.TotalsRule.{isAdd, isFindOrAdd, onlyFindsAndAdds, isPresent, addsTo, isAdded, amountsAdded, countsAt, roomsToMake}
+use Rattle.semantics.specs.TotalsRule.{CellsSuffice, EveryOperationFinishes, expectedFrom, expected, TotalsRule}
+use Rattle.semantics.proofs.Laws.{Lawful, Accepted}
+use Rattle.semantics.proofs.Lists.{none-some, true-false, cond-swap}
+use Rattle.semantics.proofs.Orders.{fold-any-order, indices, occurs-indices, fold-indices}
+use Rattle.semantics.proofs.Linearizability.{linearizable}
+
+-- key k counted as present too
+unfoldable with-key : ℕ → (ℕ → Bool) → ℕ → Bool
+with-key k present j = cond (eqb j k) true (present j)
+
+own-room : (a b : Bool) (n : ℕ) → cond (a && (not false && not b)) (suc (cond b (suc n) n)) (cond b (suc n) n)
+    ≡ cond (a && true || b) (suc (cond (a && (not true && not b)) (suc n) n)) (cond (a && (not true && not b)) (suc n) n)
+own-room true true n = refl
+own-room true false n = refl
+own-room false true n = refl
+own-room false false n = refl
+
+some-map : {A B : Type 0} (f : A → B) (l : List A) (i : ℕ) → isSome (getElem? (map f l) i) ≡ isSome (getElem? l i)
+unfolding isSome
+some-map f [] i = refl
+some-map f (x ∷ l) zero = refl
+some-map f (x ∷ l) (suc i) = some-map f l i
+
+and-left : (a b : Bool) → Holds (a && b) → Holds a
+and-left true b h = tt
+and-left false b h = h
+
+and-right : (a b : Bool) → Holds (a && b) → Holds b
+and-right true b h = h
+and-right false b h = absurd h
+
+module _ {T : Type 0} where
+  -- the rooms to make are one fewer once a missing room that is added has been made
+  rooms-with : (k : ℕ) (present : ℕ → Bool) → present k ≡ false → (ops : List (Operation T))
+      → roomsToMake present ops ≡ cond (isAdded k ops) (suc (roomsToMake (with-key k present) ops)) (roomsToMake (with-key k present) ops)
+  unfolding roomsToMake isAdded countsAt addsTo with-key
+  rooms-with k present h [] = refl
+  rooms-with k present h (o ∷ ops) = rw (rooms-with k present h ops) (go (ℕ-discrete (o .key) k))
+    where
+      r : ℕ
+      r = roomsToMake (with-key k present) ops
+
+      counts : (p : ℕ → Bool) (b : Bool) → p (o .key) ≡ b → o .key ≡ k → countsAt p o ops ≡ (isAdd (o .kind) && (not b && not (isAdded k ops)))
+      counts p b e q = ap₂ (λ (x : Bool) (n : ℕ). isAdd (o .kind) && (not x && not (isAdded n ops))) e q
+
+      go : Dec (o .key ≡ k) → cond (countsAt present o ops) (suc (cond (isAdded k ops) (suc r) r)) (cond (isAdded k ops) (suc r) r)
+          ≡ cond (addsTo k o || isAdded k ops) (suc (cond (countsAt (with-key k present) o ops) (suc r) r)) (cond (countsAt (with-key k present) o ops) (suc r) r)
+      go (yes q) =
+          let mine : eqb k (o .key) ≡ true = eq-eqb k (o .key) (sym q) in
+          rw (counts present false (ap present q ∙ h) q, counts (with-key k present) true (rw (eq-eqb (o .key) k q)) q, mine)
+          (own-room (isAdd (o .kind)) (isAdded k ops) r)
+      go (no q) =
+          rw (ne-eqb (o .key) k q, ne-eqb k (o .key) (λ e. q (sym e)), and-false)
+          (cond-swap (countsAt present o ops) (isAdded k ops) r)
+
+  rooms-same : (p q : ℕ → Bool) → ((k : ℕ) → p k ≡ q k) → (ops : List (Operation T)) → roomsToMake p ops ≡ roomsToMake q ops
+  unfolding roomsToMake countsAt
+  rooms-same p q h [] = refl
+  rooms-same p q h (o ∷ ops) = rw (h (o .key), rooms-same p q h ops)
+
+  -- rows that are all done have each finished
+  done-le : (rows : List (Row T)) → doneCount rows ≤ length rows
+  unfolding doneCount
+  done-le [] = omega arith
+  done-le (r ∷ rows) = go (isSome (answered (r .state))) (done-le rows)
+    where
+      go : (z : Bool) → doneCount rows ≤ length rows → cond z (suc (doneCount rows)) (doneCount rows) ≤ suc (length rows)
+      go true h = omega arith
+      go false h = omega arith
+
+  all-done : (rows : List (Row T)) → doneCount rows ≡ length rows → (i : ℕ) → finishedIn rows i ≡ isSome (getElem? rows i)
+  unfolding doneCount finishedIn answerIn isSome
+  all-done [] e i = refl
+  all-done (r ∷ rows) e i = go (isSome (answered (r .state))) refl i (λ q. all-done rows q)
+    where
+      go : (z : Bool) → isSome (answered (r .state)) ≡ z → (i : ℕ) → (doneCount rows ≡ length rows → (i : ℕ) → isSome (answerIn (getElem? rows i)) ≡ isSome (getElem? rows i))
+          → isSome (answerIn (getElem? (r ∷ rows) i)) ≡ isSome (getElem? (r ∷ rows) i)
+      go true q zero all-rest = q
+      go true q (suc i) all-rest = all-rest (suc-inj (rw q at e)) i
+      go false q i all-rest =
+          let l : doneCount rows ≤ length rows = done-le rows in
+          let f : doneCount rows ≡ suc (length rows) = rw q at e in
+          absurd (omega arith)
+
+  -- an operation that a list names is one of the list's
+  only-at : (ops : List (Operation T)) (i : ℕ) {o : Operation T} → Holds (onlyFindsAndAdds ops) → getElem? ops i ≡ some o → Holds (isFindOrAdd (o .kind))
+  unfolding onlyFindsAndAdds
+  only-at [] i h e = absurd (none-some e)
+  only-at (x ∷ ops) zero {o} h e =
+      let q : x ≡ o = cc in
+      subst (λ (y : Operation T). Holds (isFindOrAdd (y .kind))) q (and-left (isFindOrAdd (x .kind)) (onlyFindsAndAdds ops) h)
+  only-at (x ∷ ops) (suc i) h e = only-at ops i (and-right (isFindOrAdd (x .kind)) (onlyFindsAndAdds ops) h) e
+
+  added-at : (ops : List (Operation T)) (i : ℕ) {o : Operation T} → getElem? ops i ≡ some o → isAdd (o .kind) ≡ true → isAdded (o .key) ops ≡ true
+  unfolding isAdded addsTo
+  added-at [] i e h = absurd (none-some e)
+  added-at (x ∷ ops) zero {o} e h =
+      let q : x ≡ o = cc in
+      subst (λ (y : Operation T). (isAdd (y .kind) && eqb (o .key) (y .key) || isAdded (o .key) ops) ≡ true) (sym q) (rw (h, eq-eqb (o .key) (o .key) refl))
+  added-at (x ∷ ops) (suc i) {o} e h = rw (added-at ops i e h) (or-true (isAdd (x .kind) && eqb (o .key) (x .key)))
+
+module _ (S : Setting) (L : Lawful S) where
+  -- what an operation adds to the total of room k
+  unfoldable plussed : Option (S .T) → S .T → Option (S .T)
+  plussed none a = some a
+  plussed (some t) a = some (S .plus t a)
+
+  unfoldable add-one-to : ℕ → Option (S .T) → Operation (S .T) → Option (S .T)
+  add-one-to k z o = cond (addsTo k o) (plussed z (o .amount)) z
+
+  unfoldable add-to : ℕ → Option (S .T) → Option (Operation (S .T)) → Option (S .T)
+  add-to k z none = z
+  add-to k z (some o) = add-one-to k z o
+
+  -- and in which order two of them do so does not matter
+  plussed-comm : (z : Option (S .T)) (a b : S .T) → plussed (plussed z a) b ≡ plussed (plussed z b) a
+  unfolding plussed
+  plussed-comm none a b = ap some (L .plus-comm a b)
+  plussed-comm (some t) a b = ap some (L .plus-assoc t a b ∙ ap (λ (u : S .T). S .plus t u) (L .plus-comm a b) ∙ sym (L .plus-assoc t b a))
+
+  add-comm : (k : ℕ) (z : Option (S .T)) (x y : Option (Operation (S .T))) → add-to k (add-to k z x) y ≡ add-to k (add-to k z y) x
+  unfolding add-to add-one-to
+  add-comm k z none y = refl
+  add-comm k z (some o) none = refl
+  add-comm k z (some o) (some o′) = go (addsTo k o) (addsTo k o′)
+    where
+      go : (p q : Bool) → cond q (plussed (cond p (plussed z (o .amount)) z) (o′ .amount)) (cond p (plussed z (o .amount)) z)
+          ≡ cond p (plussed (cond q (plussed z (o′ .amount)) z) (o .amount)) (cond q (plussed z (o′ .amount)) z)
+      go true true = plussed-comm z (o .amount) (o′ .amount)
+      go true false = refl
+      go false true = refl
+      go false false = refl
+
+  -- taken in row order they come to the expected total
+  add-all : (k : ℕ) (ops : List (Operation (S .T))) (z : Option (S .T)) → foldl (add-one-to k) z ops ≡ expectedFrom S z (amountsAdded k ops)
+  unfolding foldl expectedFrom amountsAdded add-one-to plussed
+  add-all k [] none = refl
+  add-all k [] (some t) = ap some (sym (L .sum-none t))
+  add-all k (o ∷ ops) z = go (addsTo k o) refl z (λ y. add-all k ops y)
+    where
+      go : (p : Bool) → addsTo k o ≡ p → (z : Option (S .T)) → ((y : Option (S .T)) → foldl (add-one-to k) y ops ≡ expectedFrom S y (amountsAdded k ops))
+          → foldl (add-one-to k) (add-one-to k z o) ops ≡ expectedFrom S z (cond p (o .amount ∷ amountsAdded k ops) (amountsAdded k ops))
+      go false e z ih = rw e (ih z)
+      go true e none ih = rw e (ih (some (o .amount)))
+      go true e (some t) ih = rw e (ih (some (S .plus t (o .amount))) ∙ ap some (sym (L .sum-more t (o .amount) (amountsAdded k ops))))
+
+  module _ (ops : List (Operation (S .T))) where
+    -- the cells not empty and the rooms still to make are at most c
+    unfoldable Enough : Map (S .T) → Type 0
+    Enough m = m .used + roomsToMake (λ k. isSome (m .pairs k)) ops ≤ S .size
+
+    -- the pair that is put in is what an add makes of the one before
+    paired : (key : ℕ) (a : S .T) (m : Map (S .T)) (z : Option (S .T)) → m .pairs key ≡ z → (k : ℕ)
+        → withPair key (plussed z a) (m .pairs) k ≡ cond (eqb k key) (plussed (m .pairs k) a) (m .pairs k)
+    unfolding withPair
+    paired key a m z e k = go (eqb k key) refl
+      where
+        go : (p : Bool) → eqb k key ≡ p → cond p (plussed z a) (m .pairs k) ≡ cond p (plussed (m .pairs k) a) (m .pairs k)
+        go true q = ap (λ (y : Option (S .T)). plussed y a) (sym e ∙ ap (m .pairs) (sym (eqb-true k key q)))
+        go false q = refl
+
+    -- with a room made, one fewer is left to make; with a total changed, as many
+    room-made : (key : ℕ) (u : S .T) (m : Map (S .T)) → m .pairs key ≡ none → isAdded key ops ≡ true
+        → roomsToMake (λ k. isSome (m .pairs k)) ops ≡ suc (roomsToMake (λ k. isSome (withPair key (some u) (m .pairs) k)) ops)
+    unfolding withPair with-key isSome
+    room-made key u m e h =
+        rooms-with key (λ k. isSome (m .pairs k)) (rw e) ops
+        ∙ rw h (ap suc (rooms-same (with-key key (λ k. isSome (m .pairs k))) (λ k. isSome (withPair key (some u) (m .pairs) k)) (λ k. go k (eqb k key)) ops))
+      where
+        go : (k : ℕ) (p : Bool) → cond p true (isSome (m .pairs k)) ≡ isSome (cond p (some u) (m .pairs k))
+        go k true = refl
+        go k false = refl
+
+    room-kept : (key : ℕ) (t u : S .T) (m : Map (S .T)) → m .pairs key ≡ some t
+        → roomsToMake (λ k. isSome (m .pairs k)) ops ≡ roomsToMake (λ k. isSome (withPair key (some u) (m .pairs) k)) ops
+    unfolding withPair isSome
+    room-kept key t u m e = rooms-same (λ k. isSome (m .pairs k)) (λ k. isSome (withPair key (some u) (m .pairs) k)) (λ k. go k (eqb k key) refl) ops
+      where
+        go : (k : ℕ) (p : Bool) → eqb k key ≡ p → isSome (m .pairs k) ≡ isSome (cond p (some u) (m .pairs k))
+        go k true q = rw (eqb-true k key q, e)
+        go k false q = refl
+
+    -- a find or an add on the map: what it adds, and that there is still room enough
+    record Performs (kind : Kind) (key : ℕ) (a : S .T) (m : Map (S .T)) (d : Done (S .T)) : Type 0 where
+      pairs : (k : ℕ) → d .after .pairs k ≡ cond (isAdd kind && eqb k key) (plussed (m .pairs k) a) (m .pairs k)
+      enough : Enough (d .after)
+
+    performs : (kind : Kind) (key : ℕ) (a : S .T) (m : Map (S .T)) (z : Option (S .T)) → m .pairs key ≡ z → Holds (isFindOrAdd kind)
+        → (isAdd kind ≡ true → isAdded key ops ≡ true) → Enough m → Performs kind key a m (perform S kind key a m z)
+    unfolding perform unchanged replaced stored plussed isAdd isFindOrAdd Enough
+    performs find key a m none e h named en = record { pairs = λ k. refl; enough = en }
+    performs find key a m (some t) e h named en = record { pairs = λ k. refl; enough = en }
+    performs insert key a m z e h named en = absurd h
+    performs update key a m z e h named en = absurd h
+    performs remove key a m z e h named en = absurd h
+    performs add key a m none e h named en =
+        let r : roomsToMake (λ k. isSome (m .pairs k)) ops ≡ suc (roomsToMake (λ k. isSome (withPair key (some a) (m .pairs) k)) ops) = room-made key a m e (named refl) in
+        rw (ne-eqb (m .used) (S .size) (λ q. omega arith)) (record { pairs = paired key a m none e; enough = omega arith })
+    performs add key a m (some t) e h named en = record { pairs = paired key a m (some t) e; enough = rw (← room-kept key t (S .plus t a) m e) en }
+
+    -- so each room's pair, as the log is replayed, is what the adds named so far make of it
+    replayed : Holds (onlyFindsAndAdds ops) → (l : List ℕ) (r : Replay (S .T)) → Enough (r .now) → (k : ℕ)
+        → foldl (λ b i. replayOne S b (getElem? ops i)) r l .now .pairs k ≡ foldl (λ z i. add-to k z (getElem? ops i)) (r .now .pairs k) l
+    unfolding foldl replayOne noted performed add-to add-one-to addsTo
+    replayed only [] r en k = refl
+    replayed only (i ∷ l) r en k = go (getElem? ops i) refl (λ r′ en′. replayed only l r′ en′ k)
+      where
+        go : (x : Option (Operation (S .T))) → getElem? ops i ≡ x
+            → ((r′ : Replay (S .T)) → Enough (r′ .now)
+            → foldl (λ b i. replayOne S b (getElem? ops i)) r′ l .now .pairs k ≡ foldl (λ z i. add-to k z (getElem? ops i)) (r′ .now .pairs k) l)
+            → foldl (λ b i. replayOne S b (getElem? ops i)) (replayOne S r x) l .now .pairs k ≡ foldl (λ z i. add-to k z (getElem? ops i)) (add-to k (r .now .pairs k) x) l
+        go none e ih = ih r en
+        go (some o) e ih =
+            let p : Performs (o .kind) (o .key) (o .amount) (r .now) (performed S (r .now) o) =
+            performs (o .kind) (o .key) (o .amount) (r .now) (r .now .pairs (o .key)) refl (only-at ops i only e) (added-at ops i e) en in
+            ih (noted S r (performed S (r .now) o)) (p .enough)
+            ∙ ap (λ (z : Option (S .T)). foldl (λ z i. add-to k z (getElem? ops i)) z l) (p .pairs k)
+
+  -- where every operation has finished, the log names each of them once
+  each-once : (start : List (Cell (S .T))) (ops : List (Operation (S .T))) (m : Machine (S .T)) → Linearizable S start ops m → doneCount (m .rows) ≡ length ops
+      → (i : ℕ) → occurs i (m .log) ≡ occurs i (indices (length ops))
+  each-once start ops m lin done i =
+      lin .once i ∙ ap (λ (z : Bool). cond z 1 0) (all-done (m .rows) (done ∙ ap length (sym (lin .operations)) ∙ length-map (m .rows) (λ r. r .operation)) i ∙ there)
+      ∙ sym (occurs-indices ops i)
+    where
+      there : isSome (getElem? (m .rows) i) ≡ isSome (getElem? ops i)
+      there = sym (some-map (λ (r : Row (S .T)). r .operation) (m .rows) i) ∙ ap (λ (l : List (Operation (S .T))). isSome (getElem? l i)) (lin .operations)
+
+  pub totals-rule : (start : List (Cell (S .T))) → Accepted S start → (ops : List (Operation (S .T))) (schedule : List ℕ) → TotalsRule S start ops schedule
+  unfolding TotalsRule EveryOperationFinishes CellsSuffice expected replay mapOf Enough isPresent add-to
+  totals-rule start ok ops schedule only finish suffice k =
+      lin .pairs k
+      ∙ replayed ops only (run S start ops schedule .log) (record { now = mapOf start; answers = [] }) suffice k
+      ∙ fold-any-order (λ z i. add-to k z (getElem? ops i)) (λ z i j. add-comm k z (getElem? ops i) (getElem? ops j))
+      (run S start ops schedule .log) (indices (length ops)) (lookup k start) (each-once start ops (run S start ops schedule) lin finish)
+      ∙ fold-indices (add-to k) (lookup k start) ops
+      ∙ add-all k ops (lookup k start)
+    where
+      lin : Linearizable S start ops (run S start ops schedule)
+      lin = linearizable S L start ops ok schedule
