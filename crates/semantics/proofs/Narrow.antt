@@ -2,7 +2,7 @@
 -- Assumes nothing.
 use mathlib.Core.Path.{_≡_, refl, ap, ap₂, sym, subst, _∙_}
 use Prim.Native.Nat.{ℕ, zero, suc, _+_, _-_, _*_, _/_, _%_, _^_, _≤_, _<_, min}
-use mathlib.Core.Bool.{Bool, true, false, _||_, _&&_, Bool·beq, or-assoc, or-comm, or-true, or-false}
+use mathlib.Core.Bool.{Bool, true, false, _||_, Bool·beq, or-assoc, or-comm, or-true, or-false}
 use mathlib.Core.List.{List, [], _∷_}
 use native.Mathlib.Nat.{add-assoc, mul-div-cancel-left}
 use native.Mathlib.Omega.{arith}
