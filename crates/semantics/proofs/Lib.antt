@@ -3,3 +3,4 @@ pub mod Laws
 pub mod Tests
 pub mod Narrow
 pub mod Words
+pub mod Start

@@ -2,7 +2,7 @@
 -- Assumes nothing.
 use mathlib.Core.Path.{_≡_, refl}
 use Prim.Native.Nat.{ℕ}
-use mathlib.Core.Bool.{Bool, true, false, _&&_, _||_, Bool·beq}
+use mathlib.Core.Bool.{Bool, true, false, _&&_, _||_, not, Bool·beq, true≢false}
 use native.Mathlib.Omega.{arith}
 use lib.Dec.{T, eqb, eqb→eq, eqb-refl, leb→le, le→leb}
 
@@ -30,6 +30,18 @@ beq-sound false false h = refl
 
 pub passed : (p : Bool) → T p → p ≡ true
 passed p t = same-test p true (λ u. tt) (λ u. t)
+
+pub affirmed : (p : Bool) → not p ≡ false → T p
+affirmed true e = tt
+affirmed false e = true≢false e
+
+pub neither : (p q : Bool) → (p || q) ≡ false → (p ≡ false) × (q ≡ false)
+neither true q e = absurd (true≢false e)
+neither false q e = (refl, e)
+
+pub other-fails : (p q : Bool) → T p → (p && q) ≡ false → q ≡ false
+other-fails true q t e = e
+other-fails false q t e = absurd t
 
 pub join : (p q : Bool) → T p → T q → T (p && q)
 join true q t u = u
