@@ -1,8 +1,12 @@
-pub mod Cases
-pub mod Laws
 pub mod Lists
+pub mod Tests
+pub mod Laws
 pub mod Table
 pub mod Steps
 pub mod Linearizability
 pub mod Orders
 pub mod TotalsHold
+pub mod Narrow
+pub mod Words
+pub mod Start
+pub mod Cases

@@ -1,0 +1,213 @@
+-- No refusal gives what the theorems ask: what follows from each condition of the run's table that is not met, and from all of them that the
+-- starting cells are as Laws.antt says and that cells and operations can be packed.
+-- Assumes nothing.
+use mathlib.Core.Path.{_≡_, refl, ap, sym, subst, _∙_}
+use Prim.Native.Nat.{ℕ, zero, suc, _+_, _-_, _%_, _≤_, _<_, suc-le-suc}
+use mathlib.Core.Bool.{Bool, true, false, cond}
+use mathlib.Core.List.{List, [], _∷_, map}
+use mathlib.Core.Option.{some}
+use native.Mathlib.Nat.{zero-add, mod-lt, mod-eq-of-lt, add-mod-mod, add-mod-right}
+use native.Mathlib.Decide.{ℕ-discrete, decLt}
+use native.Mathlib.Omega.{arith}
+use lib.Dec.{T, eqb, ltb}
+use lib.ListN.{length, getD, getElem?, length-map, List·getD-map, List·getD-eq-default}
+use borrow.Author.Tests.{ltb-false, leb-false, eqb-false}
+use Rattle.semantics.specs.Totals.{Total}
+use Rattle.semantics.specs.Cells.{Cell, Operation, empty, keyed, isEmpty}
+use Rattle.semantics.specs.Step.{placeOf}
+use Rattle.semantics.specs.Words.{sizeAllowed, homeIn, isLiveKey, keyOf, cellAllowed, operationAllowed, decode, decodeOperation, narrowSetting}
+use Rattle.semantics.specs.Refusals.{firstFrom, firstBelow, someBelow, Condition, firstMet, atFirst, Call, mostOperations, mostEntries, isRepeated, isUnreachable}
+use Rattle.semantics.specs.Refusals.{sizeNotAllowed, tooMany, tooShort, badCell, badOperation, badEntry, repeatedKey, unreachableKey, runConditions, runRefusal}
+use Rattle.semantics.proofs.Laws.{Accepted}
+use Rattle.semantics.proofs.Tests.{affirmed, neither, other-fails}
+use Rattle.semantics.proofs.Narrow.{allowed-lawful}
+use Rattle.semantics.proofs.Words.{live-bounds, Packed, Packs, decode-packs, decode-operation-packed, decode-empty, decode-keyed}
+
+-- what a search of the indices from one on and below another gives: r is the first that passes the test, or the end
+pub record Searched (from end : ℕ) (test : ℕ → Bool) (r : ℕ) : Type 0 where
+  pub low : from ≤ r
+  pub high : r ≤ end
+  pub before : (j : ℕ) → from ≤ j → j < r → test j ≡ false
+  pub hit : r < end → test r ≡ true
+
+pub searched : (n i : ℕ) (test : ℕ → Bool) → Searched i (i + n) test (firstFrom n i test)
+unfolding firstFrom
+searched zero i test = record { low = omega arith; high = omega arith; before = λ j a b. absurd (omega arith); hit = λ b. absurd (omega arith) }
+searched (suc n) i test = go (test i) refl (searched n (suc i) test)
+  where
+    go : (b : Bool) → test i ≡ b → Searched (suc i) (suc i + n) test (firstFrom n (suc i) test)
+        → Searched i (i + suc n) test (elim b [ true ↦ i | false ↦ firstFrom n (suc i) test ])
+    go true e s = record { low = omega arith; high = omega arith; before = λ j a b. absurd (omega arith); hit = λ b. e }
+    go false e s =
+        record {
+          low = omega arith;
+          high = omega arith;
+          before = λ j a b. elim (ℕ-discrete j i) [ yes q ↦ rw q e | no q ↦ s .before j (omega arith) b ];
+          hit = λ b. s .hit (omega arith);
+        }
+
+module _ (n : ℕ) (test : ℕ → Bool) where
+  pub first-below : Searched 0 n test (firstBelow n test)
+  unfolding firstBelow
+  first-below = subst (λ m. Searched 0 m test (firstFrom n 0 test)) (zero-add n) (searched n 0 test)
+
+  -- no index passes where none is found, and one is found where one passes
+  pub none-below : someBelow n test ≡ false → (i : ℕ) → i < n → test i ≡ false
+  unfolding someBelow
+  none-below e i b = first-below .before i (omega arith) (omega (arith, ltb-false (firstBelow n test) n e))
+
+  pub some-below : (i : ℕ) → i < n → test i ≡ true → someBelow n test ≡ true
+  some-below i b e = go (someBelow n test) refl
+    where
+      go : (z : Bool) → someBelow n test ≡ z → z ≡ true
+      go true f = refl
+      go false f = let g = none-below f i b in cc
+
+-- with positive numbers, number 0 says that no condition is met
+abbrev pub Positive : List Condition → Type 0
+Positive [] = Unit
+Positive (c ∷ more) = (0 < c .number) × Positive more
+
+abbrev pub NoneMet : List Condition → Type 0
+NoneMet [] = Unit
+NoneMet (c ∷ more) = (c .met ≡ false) × NoneMet more
+
+pub none-met : (cs : List Condition) → Positive cs → firstMet cs .number ≡ 0 → NoneMet cs
+unfolding firstMet
+none-met [] p e = tt
+none-met (c ∷ more) p e = go (c .met) refl e (none-met more (p .1))
+  where
+    go : (b : Bool) → c .met ≡ b → cond b (record { number = c .number; place = c .place }) (firstMet more) .number ≡ 0
+        → (firstMet more .number ≡ 0 → NoneMet more) → NoneMet (c ∷ more)
+    go true m f r = absurd (omega (arith, p .0))
+    go false m f r = (m, r f)
+
+-- what the run's checks say of a call that none of them turns away
+pub record Passed (call : Call) : Type 0 where
+  pub size : T (sizeAllowed (length (call .cells)))
+  pub few : length (call .operations) ≤ mostOperations
+  pub short : length (call .schedule) ≤ mostEntries
+  pub answers : length (call .operations) ≤ call .answersLength
+  pub log : length (call .operations) ≤ call .logLength
+  pub cells : (i : ℕ) → i < length (call .cells) → T (cellAllowed (getD (call .cells) i 0))
+  pub operations : (i : ℕ) → i < length (call .operations) → T (operationAllowed (getD (call .operations) i 0))
+  pub entries : (i : ℕ) → i < length (call .schedule) → getD (call .schedule) i 0 < length (call .operations)
+  pub distinct : (i : ℕ) → i < length (call .cells) → isRepeated (call .cells) i ≡ false
+  pub reached : (i : ℕ) → i < length (call .cells) → isUnreachable (call .cells) i ≡ false
+
+pub accepted-call : (call : Call) → runRefusal call .number ≡ 0 → Passed call
+unfolding runRefusal runConditions sizeNotAllowed tooMany tooShort badCell badOperation badEntry repeatedKey unreachableKey atFirst
+accepted-call call e =
+    let cells = call .cells in
+    let n = length (call .operations) in
+    let (size, (many, (slices, (cell, (operation, (entry, (repeated, (unreachable, end)))))))) = none-met (runConditions call) (omega arith) e in
+    let (few, short) = neither (ltb mostOperations n) (ltb mostEntries (length (call .schedule))) many in
+    let (answers, log) = neither (ltb (call .answersLength) n) (ltb (call .logLength) n) slices in
+    record {
+      size = affirmed (sizeAllowed (length cells)) size;
+      few = ltb-false mostOperations n few;
+      short = ltb-false mostEntries (length (call .schedule)) short;
+      answers = ltb-false (call .answersLength) n answers;
+      log = ltb-false (call .logLength) n log;
+      cells = λ i b. affirmed (cellAllowed (getD cells i 0)) (none-below (length cells) _ cell i b);
+      operations = λ i b. affirmed (operationAllowed (getD (call .operations) i 0)) (none-below n _ operation i b);
+      entries = λ i b. leb-false n (getD (call .schedule) i 0) (none-below (length (call .schedule)) _ entry i b);
+      distinct = none-below (length cells) (isRepeated cells) repeated;
+      reached = none-below (length cells) (isUnreachable cells) unreachable;
+    }
+
+-- the cell at the distance from h to i is i
+pub distance-back : (c h i : ℕ) → h < c → i < c → (h + (i + c - h) % c) % c ≡ i
+distance-back c h i a b =
+    let e : h + (i + c - h) ≡ i + c = omega arith in
+    add-mod-mod h (i + c - h) c ∙ ap (λ n. n % c) e ∙ add-mod-right i c ∙ mod-eq-of-lt b
+
+-- what holds of the default and of each element holds at every index
+pub everywhere : {A : Type 0} (P : A → Type 0) (d : A) → P d → (xs : List A) → ((i : ℕ) → i < length xs → P (getD xs i d)) → (i : ℕ) → P (getD xs i d)
+everywhere P d z [] h i = z
+everywhere P d z (x ∷ xs) h zero = h 0 (omega arith)
+everywhere P d z (x ∷ xs) h (suc i) = everywhere P d z xs (λ j b. h (suc j) (suc-le-suc b)) i
+
+-- what holds of each element holds of one that is found
+pub found-holds : {A B : Type 0} (P : B → Type 0) (f : A → B) (d : A) (xs : List A)
+    → ((i : ℕ) → i < length xs → P (f (getD xs i d))) → (i : ℕ) (y : B) → getElem? (map f xs) i ≡ some y → P y
+found-holds P f d [] h i y e = absurd (let z : _≡_ {A = ℕ} 0 1 = cc in omega arith)
+found-holds P f d (x ∷ xs) h zero y e = let g : f x ≡ y = cc in subst P g (h 0 (omega arith))
+found-holds P f d (x ∷ xs) h (suc i) y e = found-holds P f d xs (λ j b. h (suc j) (suc-le-suc b)) i y e
+
+inside : (xs : List ℕ) (i : ℕ) → 0 < getD xs i 0 → i < length xs
+inside xs i h = elim (decLt i (length xs)) [ yes l ↦ l | no l ↦ absurd (omega (arith, List·getD-eq-default xs 0 {n = i} (omega arith))) ]
+
+abbrev word : Call → ℕ → ℕ
+word call i = getD (call .cells) i 0
+
+abbrev key : Call → ℕ → ℕ
+key call i = keyOf (word call i)
+
+abbrev cellAt : Call → ℕ → Cell Total
+cellAt call i = getD (map decode (call .cells)) i empty
+
+-- what Laws.antt asks of a key's cell: it is at distance d from the key's home, and no cell before it is empty
+abbrev ReachedAt : Call → ℕ → ℕ → Type 0
+ReachedAt call k i =
+    let S = narrowSetting (length (call .cells)) in
+    (d : ℕ) × (d < S .size) × (placeOf S k d ≡ i) × ((e : ℕ) → e < d → isEmpty (cellAt call (placeOf S k e)) ≡ false)
+
+module _ (call : Call) (p : Passed call) where
+  pub decoded : (i : ℕ) → cellAt call i ≡ decode (word call i)
+  unfolding decode isLiveKey
+  decoded i = List·getD-map decode (call .cells) i 0
+
+  pub allowed : (i : ℕ) → T (cellAllowed (word call i))
+  unfolding cellAllowed isLiveKey
+  allowed = everywhere (λ w. T (cellAllowed w)) 0 tt (call .cells) (p .cells)
+
+  -- a cell that has key k: so does its word, which is one of the table's
+  has : (k i : ℕ) (t : Total) → keyed k (cellAt call i) ≡ some t → T (isLiveKey (key call i)) × (key call i ≡ k) × (i < length (call .cells))
+  has k i t h =
+      let (q, e) = decode-keyed k (word call i) t (allowed i) (rw decoded at h) in
+      let b = live-bounds k (q .is-live) in
+      let f : key call i ≡ k = omega arith in
+      (rw f (q .is-live), f, inside (call .cells) i (omega arith))
+
+  -- a live key stands in no lower cell
+  lowest : (i j : ℕ) → j < length (call .cells) → T (isLiveKey (key call j)) → key call i ≡ key call j → j ≤ i
+  unfolding isRepeated
+  lowest i j b l e =
+      let s : someBelow j (λ m. eqb (key call m) (key call j)) ≡ false = other-fails (isLiveKey (key call j)) _ l (p .distinct j b) in
+      elim (decLt i j) [ yes a ↦ absurd (eqb-false (key call i) (key call j) (none-below j _ s i a) e) | no a ↦ omega arith ]
+
+  reach : (i : ℕ) → i < length (call .cells) → T (isLiveKey (key call i)) → ReachedAt call (key call i) i
+  unfolding isUnreachable placeOf
+  reach i b l =
+      let c = length (call .cells) in
+      let h = homeIn c (key call i) in
+      let d = (i + c - h) % c in
+      let s : someBelow d (λ e. eqb (word call ((h + e) % c)) 0) ≡ false = other-fails (isLiveKey (key call i)) _ l (p .reached i b) in (
+        d,
+        mod-lt (i + c - h) (omega arith),
+        distance-back c h i (allowed-lawful c (p .size) .home-below (key call i)) b,
+        λ e m. rw (decoded ((h + e) % c), decode-empty (word call ((h + e) % c)) (allowed ((h + e) % c))) (none-below d _ s e m),
+      )
+
+  pub start-accepted : Accepted (narrowSetting (length (call .cells))) (map decode (call .cells))
+  start-accepted =
+      record {
+        long = length-map (call .cells) decode;
+        distinct = λ k i j t u f g.
+            let (l, a, b) = has k i t f in
+            let (m, d, e) = has k j u g in
+            omega (arith, lowest i j e m (a ∙ sym d), lowest j i b l (d ∙ sym a));
+        reached = λ k i t f. let (l, e, b) = has k i t f in subst (λ k′. ReachedAt call k′ i) e (reach i b l);
+      }
+
+  -- the starting cells and the operations can be packed
+  pub start-packs : (i : ℕ) → Packs (getD (map decode (call .cells)) i empty)
+  start-packs i = rw decoded (decode-packs (word call i) (allowed i))
+
+  pub operations-packed : (i : ℕ) (o : Operation Total) → getElem? (map decodeOperation (call .operations)) i ≡ some o → Packed (o .key) (o .amount)
+  operations-packed =
+      found-holds (λ o. Packed (o .key) (o .amount)) decodeOperation 0 (call .operations) (λ i b. decode-operation-packed (getD (call .operations) i 0) (p .operations i b))
+
+pub accepted-start : (call : Call) → runRefusal call .number ≡ 0 → Accepted (narrowSetting (length (call .cells))) (map decode (call .cells))
+accepted-start call e = start-accepted call (accepted-call call e)
