@@ -11,13 +11,13 @@ use Rattle.semantics.specs.Words.{isLiveKey, sizeAllowed}
 use Rattle.word.proofs.Powers.{power-of}
 
 -- the second of two tests that both pass
-both : (a b : Bool) → (a && b) ≡ true → b ≡ true
-both true b e = e
-both false b e = absurd (false≢true e)
+second : (a b : Bool) → (a && b) ≡ true → b ≡ true
+second true b e = e
+second false b e = absurd (false≢true e)
 
 pub live-below : (k : ℕ) → isLiveKey k ≡ true → k < 65535
 unfolding isLiveKey
-live-below k e = ltb-true k 65535 (both (ltb 0 k) (ltb k 65535) e)
+live-below k e = ltb-true k 65535 (second (ltb 0 k) (ltb k 65535) e)
 
 pub size-between : (c : ℕ) → sizeAllowed c ≡ true → (8 ≤ c) × (c ≤ 4096)
 unfolding sizeAllowed

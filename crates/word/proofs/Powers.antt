@@ -11,6 +11,7 @@ use lib.Count.{ones, trailingZeros, under, ones-step, ones-cat, ones-le}
 use borrow.Author.Tests.{eq-eqb, ne-eqb, eqb-true, lt-ltb, le-ltb}
 use Rattle.semantics.specs.Words.{isPowerFrom}
 
+-- a power has one bit set
 pub ones-pow : (t : ℕ) → ones (2 ^ t) ≡ 1
 unfolding ones
 ones-pow t = let e : 1 * 2 ^ t + 0 ≡ 2 ^ t = omega arith in rw e at (ones-cat t 1 0 (pow-pos t))

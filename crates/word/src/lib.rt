@@ -8,7 +8,7 @@ ghost use Rattle.semantics.specs.Words.{keyOf, totalBits, kindBits, bitsAboveKi
 ghost use Rattle.semantics.specs.Words.{isLiveKey, isPowerFrom, sizeAllowed, roomHome, roomSum};
 
 // Sixteen bits above sixteen: the layout of a cell and of an answer, and of an operation's key and
-// amount below its kind.
+// amount below its kind. low_sixteen serves words of both widths.
 fn upper_half(w: u32) -> u16
     ensures { λ r. ⌜ r ≡ w / 65536 ⌝ }
 {

@@ -1,11 +1,12 @@
 -- `word::low_sixteen` meets its contract: the mask is 2 ^ 16 - 1.
 -- Assumes nothing.
-use lib.Bits.{and-mask, mask-lt}
+use lib.Bits.{and-mask, and-le-r}
+use mir.Facts.{fits-le, fits-lit}
 use Rattle.word.proofs.low_sixteen.Statement.{statement}
 use Rattle.word.proofs.low_sixteen.Tie as tie
 
 cast-result : tie.Need-cast-result
-cast-result c = record { fits = mask-lt (c .args .w) 16 }
+cast-result c = fits-le (and-le-r (c .args .w) _) (fits-lit tt)
 
 returns : tie.Need-returns
 returns c = and-mask (c .args .w) 16

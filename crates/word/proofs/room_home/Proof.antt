@@ -1,6 +1,6 @@
 -- `word::room_home` meets its contract: what the two tests allow keeps the product within 32 bits and the divisors above 0.
 -- Assumes nothing.
-use mathlib.Core.Path.{_≡_}
+use mathlib.Core.Path.{_≡_, sym, _∙_}
 use mathlib.Core.Bool.{true, and-false}
 use native.Mathlib.Nat.{le-div-iff-mul-le}
 use native.Mathlib.Omega.{arith}
@@ -11,10 +11,10 @@ use Rattle.word.proofs.room_home.Statement.{statement}
 use Rattle.word.proofs.room_home.Tie as tie
 
 sized : (c : tie.Then2) → sizeAllowed (c .before .before .before .before .args .c) ≡ true
-sized c = cc
+sized c = sym (c .before .before .before .size-allowed .ensures) ∙ c .before .before .if1 .taken
 
 live : (c : tie.Then2) → isLiveKey (c .before .before .before .before .args .key) ≡ true
-live c = cc
+live c = sym (c .before .is-live .ensures) ∙ c .if2 .taken
 
 size-allowed-requires : tie.Need-size-allowed-requires
 size-allowed-requires c κs = search needs
