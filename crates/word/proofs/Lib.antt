@@ -1,0 +1,3 @@
+pub mod Packed
+pub mod Powers
+pub mod Allowed

@@ -1,0 +1,49 @@
+-- `word::room_home` meets its contract: what the two tests allow keeps the product within 32 bits and the divisors above 0.
+-- Assumes nothing.
+use mathlib.Core.Path.{_≡_, sym, _∙_}
+use mathlib.Core.Bool.{true, and-false}
+use native.Mathlib.Nat.{le-div-iff-mul-le}
+use native.Mathlib.Omega.{arith}
+use borrow.Author.Needs.{needs}
+use Rattle.semantics.specs.Words.{isLiveKey, sizeAllowed, homeIn, roomHome}
+use Rattle.word.proofs.Allowed.{live-below, size-between}
+use Rattle.word.proofs.room_home.Statement.{statement}
+use Rattle.word.proofs.room_home.Tie as tie
+
+sized : (c : tie.Then2) → sizeAllowed (c .before .before .before .before .args .c) ≡ true
+sized c = sym (c .before .before .before .size-allowed .ensures) ∙ c .before .before .if1 .taken
+
+live : (c : tie.Then2) → isLiveKey (c .before .before .before .before .args .key) ≡ true
+live c = sym (c .before .is-live .ensures) ∙ c .if2 .taken
+
+size-allowed-requires : tie.Need-size-allowed-requires
+size-allowed-requires c κs = search needs
+
+is-live-requires : tie.Need-is-live-requires
+is-live-requires c κs = search needs
+
+mul-result : tie.Need-mul-result
+mul-result c = omega (arith, live-below _ (live c))
+
+div-result : tie.Need-div-result
+div-result c = omega (arith, size-between _ (sized c))
+
+div-result-2 : tie.Need-div-result-2
+div-result-2 c = le-div-iff-mul-le (div-result c) .1 (omega (arith, size-between _ (sized c)))
+
+returns : tie.Need-returns
+unfolding roomHome homeIn
+returns c = rw (sized c, live c)
+
+returns-2 : tie.Need-returns-2
+unfolding roomHome
+returns-2 c = rw (← c .before .is-live .ensures, c .if2 .left, and-false)
+
+returns-3 : tie.Need-returns-3
+unfolding roomHome
+returns-3 c = rw (← c .before .size-allowed .ensures, c .if1 .left)
+
+pub room-home-spec : {M : Type 1} → statement M
+room-home-spec =
+    tie.close
+    (tie.spec size-allowed-requires is-live-requires mul-result div-result div-result-2 returns returns-2 returns-3)
