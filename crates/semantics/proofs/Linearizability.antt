@@ -2,7 +2,7 @@
 -- Assumes nothing.
 use mathlib.Core.Path.{_≡_, refl, ap, ap₂, sym, _∙_, subst, subst₃}
 use Prim.Native.Nat.{ℕ, zero, suc, _+_, _<_}
-use mathlib.Core.Bool.{Bool, true, false, cond}
+use mathlib.Core.Bool.{Bool, true, false, cond, true≢false}
 use mathlib.Core.List.{List, [], _∷_, _++_, map}
 use mathlib.Core.Option.{Option, none, some}
 use native.Mathlib.Omega.{arith}
@@ -17,7 +17,7 @@ use Rattle.semantics.specs.Step.{Turn, finishes, Pending, reading, holdi
 use Rattle.semantics.specs.Step.{step, passed, placeOf, taken, act, entered, entry, freshRow, begin, run}
 use Rattle.semantics.specs.Map.{Map, Done, Replay, mapOf, occurs, performed, noted, replayOne, replay, Linearizable}
 use Rattle.semantics.proofs.Laws.{Lawful, Accepted}
-use Rattle.semantics.proofs.Lists.{none-some, true-false, elem-set-same, elem-set-other, elem-map, map-set-elem, map-snoc, foldl-snoc, occurs-snoc, map-without}
+use Rattle.semantics.proofs.Lists.{none-some, elem-set-same, elem-set-other, elem-map, map-set-elem, map-snoc, foldl-snoc, occurs-snoc, map-on}
 use Rattle.semantics.proofs.Table.{Agrees, Probed, own-place, located-lookup, size-pos, start-agrees}
 use Rattle.semantics.proofs.Steps.{Standing, Advance, goes-on, completes, advance}
 
@@ -145,7 +145,11 @@ module _ (S : Setting) (L : Lawful S) (start : List (Cell (S .T))) (ops : List (
 
     answers-kept : (r′ : Row (S .T)) → isSome (answered (r .state)) ≡ false
         → map (λ j. answerIn (getElem? (set rows i r′) j)) log ≡ map some (replay S start ops log .answers)
-    answers-kept r′ h = map-without (λ j. answerIn (getElem? (set rows i r′) j)) (λ j. answerIn (getElem? rows j)) i (answer-set r′) log (not-logged h) ∙ H .answers
+    answers-kept r′ h =
+        map-on (λ j. answerIn (getElem? (set rows i r′) j)) (λ j. answerIn (getElem? rows j)) log (λ j p. answer-set r′ j (λ q. absurd (other j p q))) ∙ H .answers
+      where
+        other : (j : ℕ) → 0 < occurs j log → j ≡ i → ⊥
+        other j p q = let e : occurs j log ≡ 0 = ap (λ (n : ℕ). occurs n log) q ∙ not-logged h in omega arith
 
     -- the row goes on
     holds-on : (s : Pending (S .T)) → isSome (answered (r .state)) ≡ false → Standing S L cells (r .operation) s
@@ -239,7 +243,7 @@ module _ (S : Setting) (L : Lawful S) (start : List (Cell (S .T))) (ops : List (
     unfolding after answered isSome
     step-untouched h p cell q (goes-on s same turn quiet st) e = ap (λ (y : Cell (S .T)). set cells cell y) same ∙ set-getD cells cell empty
     step-untouched h p cell q (completes turn agrees keeps) e =
-        absurd (true-false (ap (λ (t : Turn (S .T)). isSome (answered (after p t))) (sym turn) ∙ sym (finished-here (record { operation = r .operation; state = after p (q .turn) })) ∙ e ∙ was ∙ h))
+        absurd (true≢false (ap (λ (t : Turn (S .T)). isSome (answered (after p t))) (sym turn) ∙ sym (finished-here (record { operation = r .operation; state = after p (q .turn) })) ∙ e ∙ was ∙ h))
 
   unfoldable HoldsOf : Machine (S .T) → Type 0
   HoldsOf m = Holds (m .cells) (m .rows) (m .log)

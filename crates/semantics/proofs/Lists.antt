@@ -1,22 +1,19 @@
 -- Lists: an element after a store, a last element more, a fold, and how often a number occurs.
 -- Assumes nothing.
-use mathlib.Core.Path.{_≡_, refl, ap, sym, _∙_}
-use Prim.Native.Nat.{ℕ, zero, suc}
+use mathlib.Core.Path.{_≡_, refl, ap, ap₂, _∙_}
+use Prim.Native.Nat.{ℕ, zero, suc, _<_}
 use mathlib.Core.Bool.{Bool, true, false, cond}
 use mathlib.Core.List.{List, [], _∷_, _++_, map}
 use mathlib.Core.Option.{Option, none, some}
 use native.Mathlib.Omega.{arith}
-use borrow.Author.Tests.{eqb-true, eqb-false, eq-eqb, ne-eqb}
+use borrow.Author.Tests.{eq-eqb}
 use lib.Dec.{eqb}
-use lib.ListN.{set, getElem?}
+use lib.ListN.{getD, set, getElem?}
 use Rattle.semantics.specs.Step.{foldl}
 use Rattle.semantics.specs.Map.{occurs}
 
 pub none-some : {A : Type 0} {a : A} → none ≡ some a → ⊥
 none-some e = let z : _≡_ {A = ℕ} 0 1 = cc in omega arith
-
-pub true-false : true ≡ false → ⊥
-true-false e = let z : _≡_ {A = ℕ} 0 1 = cc in omega arith
 
 module _ {A : Type 0} where
   pub elem-set-same : (l : List A) (i : ℕ) {a : A} (b : A) → getElem? l i ≡ some a → getElem? (set l i b) i ≡ some b
@@ -64,16 +61,20 @@ unfolding occurs
 occurs-snoc i j [] = refl
 occurs-snoc i j (x ∷ l) = rw (occurs-snoc i j l) (cond-swap (eqb i x) (eqb i j) (occurs i l))
 
--- what a list maps to does not depend on the function at a number that does not occur in it
-pub map-without : {B : Type 0} (f g : ℕ → B) (i : ℕ) → ((j : ℕ) → (j ≡ i → ⊥) → f j ≡ g j) → (l : List ℕ) → occurs i l ≡ 0 → map f l ≡ map g l
+-- what a list maps to depends on the function only at the numbers that occur in it
+pub map-on : {B : Type 0} (f g : ℕ → B) (l : List ℕ) → ((i : ℕ) → 0 < occurs i l → f i ≡ g i) → map f l ≡ map g l
 unfolding occurs
-map-without f g i h [] e = refl
-map-without {B} f g i h (x ∷ l) e = go (eqb i x) refl (λ q. map-without f g i h l q)
+map-on f g [] h = refl
+map-on {B} f g (x ∷ l) h = ap₂ (λ (b : B) (r : List B). b ∷ r) (h x (rw (eq-eqb x x refl) (omega arith))) (map-on f g l (λ i p. h i (later i (eqb i x) p)))
   where
-    go : (z : Bool) → eqb i x ≡ z → (occurs i l ≡ 0 → map f l ≡ map g l) → f x ∷ map f l ≡ g x ∷ map g l
-    go true q ih = let s : suc (occurs i l) ≡ 0 = rw q at e in absurd (omega arith)
-    go false q ih =
-        let s : occurs i l ≡ 0 = rw q at e in
-        let d : f x ≡ g x = h x (λ w. eqb-false i x q (sym w)) in
-        let m : map f l ≡ map g l = ih s in
-        cc
+    later : (i : ℕ) (z : Bool) → 0 < occurs i l → 0 < cond z (suc (occurs i l)) (occurs i l)
+    later i true p = omega arith
+    later i false p = p
+
+-- what holds of the default and of a stored element holds everywhere after the store, where it held everywhere before
+pub set-everywhere : {A : Type 0} (P : A → Type 0) (d : A) (l : List A) (j : ℕ) (a : A) → P a → ((i : ℕ) → P (getD l i d)) → (i : ℕ) → P (getD (set l j a) i d)
+set-everywhere P d [] j a p h i = h i
+set-everywhere P d (x ∷ l) zero a p h zero = p
+set-everywhere P d (x ∷ l) zero a p h (suc i) = h (suc i)
+set-everywhere P d (x ∷ l) (suc j) a p h zero = h 0
+set-everywhere P d (x ∷ l) (suc j) a p h (suc i) = set-everywhere P d l j a p (λ n. h (suc n)) i

@@ -112,9 +112,6 @@ narrow-lawful c h =
       home-below = λ k. subst (λ n. homeIn n k < n) (sym (p .is)) (home-below (p .exponent) (16 - p .exponent) k (omega arith));
     }
 
-pub lawful-positive : {S : Setting} → Lawful S → 0 < S .size
-lawful-positive l = omega (arith, l .home-below 0)
-
 -- every size that the run accepts is one of those
 one-more : (k n c : ℕ) → T (isPowerFrom k n c) → T (isPowerFrom k (suc n) c)
 unfolding isPowerFrom

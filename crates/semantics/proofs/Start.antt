@@ -6,7 +6,7 @@ use Prim.Native.Nat.{ℕ, zero, suc, _+_, _-_, _%_, _≤_, _<_, suc-le-suc}
 use mathlib.Core.Bool.{Bool, true, false, cond}
 use mathlib.Core.List.{List, [], _∷_, map}
 use mathlib.Core.Option.{some}
-use native.Mathlib.Nat.{zero-add, mod-lt, mod-eq-of-lt, add-mod-mod, add-mod-right}
+use native.Mathlib.Nat.{zero-add, mod-lt}
 use native.Mathlib.Decide.{ℕ-discrete, decLt}
 use native.Mathlib.Omega.{arith}
 use lib.Dec.{T, eqb, ltb}
@@ -19,6 +19,8 @@ use Rattle.semantics.specs.Words.{sizeAllowed, homeIn, isLiveKey, keyOf,
 use Rattle.semantics.specs.Refusals.{firstFrom, firstBelow, someBelow, Condition, firstMet, atFirst, Call, mostOperations, mostEntries, isRepeated, isUnreachable}
 use Rattle.semantics.specs.Refusals.{sizeNotAllowed, tooMany, tooShort, badCell, badOperation, badEntry, repeatedKey, unreachableKey, runConditions, runRefusal}
 use Rattle.semantics.proofs.Laws.{Accepted}
+use Rattle.semantics.proofs.Lists.{none-some}
+use Rattle.semantics.proofs.Table.{distance-back}
 use Rattle.semantics.proofs.Tests.{affirmed, neither, other-fails}
 use Rattle.semantics.proofs.Narrow.{allowed-lawful}
 use Rattle.semantics.proofs.Words.{live-bounds, Packed, Packs, decode-packs, decode-operation-packed, decode-empty, decode-keyed}
@@ -116,12 +118,6 @@ accepted-call call e =
       reached = none-below (length cells) (isUnreachable cells) unreachable;
     }
 
--- the cell at the distance from h to i is i
-pub distance-back : (c h i : ℕ) → h < c → i < c → (h + (i + c - h) % c) % c ≡ i
-distance-back c h i a b =
-    let e : h + (i + c - h) ≡ i + c = omega arith in
-    add-mod-mod h (i + c - h) c ∙ ap (λ n. n % c) e ∙ add-mod-right i c ∙ mod-eq-of-lt b
-
 -- what holds of the default and of each element holds at every index
 pub everywhere : {A : Type 0} (P : A → Type 0) (d : A) → P d → (xs : List A) → ((i : ℕ) → i < length xs → P (getD xs i d)) → (i : ℕ) → P (getD xs i d)
 everywhere P d z [] h i = z
@@ -131,7 +127,7 @@ everywhere P d z (x ∷ xs) h (suc i) = everywhere P d z xs (λ j b. h (suc j) (
 -- what holds of each element holds of one that is found
 pub found-holds : {A B : Type 0} (P : B → Type 0) (f : A → B) (d : A) (xs : List A)
     → ((i : ℕ) → i < length xs → P (f (getD xs i d))) → (i : ℕ) (y : B) → getElem? (map f xs) i ≡ some y → P y
-found-holds P f d [] h i y e = absurd (let z : _≡_ {A = ℕ} 0 1 = cc in omega arith)
+found-holds P f d [] h i y e = absurd (none-some e)
 found-holds P f d (x ∷ xs) h zero y e = let g : f x ≡ y = cc in subst P g (h 0 (omega arith))
 found-holds P f d (x ∷ xs) h (suc i) y e = found-holds P f d xs (λ j b. h (suc j) (suc-le-suc b)) i y e
 

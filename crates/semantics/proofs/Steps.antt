@@ -3,7 +3,7 @@
 -- Assumes nothing.
 use mathlib.Core.Path.{_≡_, refl, ap, sym, _∙_, subst}
 use Prim.Native.Nat.{ℕ, zero, suc, _≤_, _<_}
-use mathlib.Core.Bool.{Bool, true, false, cond, _&&_}
+use mathlib.Core.Bool.{Bool, true, false, cond, true≢false}
 use mathlib.Core.List.{List, [], _∷_}
 use mathlib.Core.Option.{Option, none, some}
 use native.Mathlib.Omega.{arith}
@@ -19,7 +19,8 @@ use Rattle.semantics.specs.Step.{Fate, stays, ends, becomes, Effect, Ste
 use Rattle.semantics.specs.Step.{heldCell, fateCell, newCell, swapAnswer, sameCell, swapped, step, passed, placeOf}
 use Rattle.semantics.specs.Map.{Map, Done, withPair, unchanged, replaced, stored, perform, performed}
 use Rattle.semantics.proofs.Laws.{Lawful}
-use Rattle.semantics.proofs.Lists.{none-some, true-false}
+use Rattle.semantics.proofs.Lists.{none-some}
+use Rattle.semantics.proofs.Tests.{true-T, same-cell-sound}
 use Rattle.semantics.proofs.Table.{keyed-live, keyed-other, Follows, used-fill, used-keep, used-below, Located, lacks, has, Agrees, Probed}
 use Rattle.semantics.proofs.Table.{own-pair, own-alone, missing-alone, free-lacks, passed-lacks, place-below, all-used, probed-set, has-set, lacks-set, agrees-set}
 
@@ -42,7 +43,7 @@ seen {T} k (live j t) = go (eqb k j) refl
 -- the two ways in which a swap that is won may change its cell
 follows-fill : {T : Type 0} (k : ℕ) (a : T) → Follows k empty (live k a)
 unfolding isEmpty keyed
-follows-fill k a = record { others = λ j ne. rw (ne-eqb j k ne); owned = λ e f. true-false f; filled = refl }
+follows-fill k a = record { others = λ j ne. rw (ne-eqb j k ne); owned = λ e f. true≢false f; filled = refl }
 
 follows-own : {T : Type 0} (k : ℕ) (t : T) (y : Cell T) → ((j : ℕ) → (j ≡ k → ⊥) → keyed j y ≡ none) → isEmpty y ≡ false → Follows k (live k t) y
 follows-own k t y h f =
@@ -53,29 +54,6 @@ follows-own k t y h f =
     }
 
 module _ (S : Setting) (L : Lawful S) where
-  sameCell-sound : (x y : Cell (S .T)) → sameCell S x y ≡ true → x ≡ y
-  unfolding sameCell
-  sameCell-sound empty empty e = refl
-  sameCell-sound empty tombstone e = absurd (true-false (sym e))
-  sameCell-sound empty (live j u) e = absurd (true-false (sym e))
-  sameCell-sound tombstone empty e = absurd (true-false (sym e))
-  sameCell-sound tombstone tombstone e = refl
-  sameCell-sound tombstone (live j u) e = absurd (true-false (sym e))
-  sameCell-sound (live k t) empty e = absurd (true-false (sym e))
-  sameCell-sound (live k t) tombstone e = absurd (true-false (sym e))
-  sameCell-sound (live k t) (live j u) e = go (eqb k j) refl e
-    where
-      total : (z : Bool) → S .same t u ≡ z → z ≡ true → t ≡ u
-      total true q r = L .same-sound t u (subst (λ (b : Bool). T b) (sym q) tt)
-      total false q r = absurd (true-false (sym r))
-
-      go : (z : Bool) → eqb k j ≡ z → (z && S .same t u) ≡ true → live k t ≡ live j u
-      go true q r =
-          let a : k ≡ j = eqb-true k j q in
-          let b : t ≡ u = total (S .same t u) refl r in
-          cc
-      go false q r = absurd (true-false (sym r))
-
   -- the tie between the step's rules and the map's own arms: on a present key, and on a missing one
   by-fate : ℕ → Map (S .T) → Answer (S .T) → Fate (S .T) → Done (S .T)
   by-fate k m a stays = unchanged m a
@@ -288,7 +266,7 @@ module _ (S : Setting) (L : Lawful S) where
 
       swaps : (w : Held (S .T)) → HoldsFor o w → (z : Bool) → sameCell S x (heldCell S (o .key) w) ≡ z → Advance cells m o p at (swapped S o w x z)
       unfolding swapped after logged Standing
-      swaps w k true q = wins w k (sameCell-sound x (heldCell S (o .key) w) q)
+      swaps w k true q = wins w k (same-cell-sound S (L .same-sound) x (heldCell S (o .key) w) (true-T (sameCell S x (heldCell S (o .key) w)) q))
       swaps w k false q = goes-on (reading p) refl refl (λ i l. refl) h
 
     pub advance : (s : Pending (S .T)) → Standing cells o s

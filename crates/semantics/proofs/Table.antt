@@ -3,7 +3,7 @@
 use mathlib.Core.Path.{_≡_, refl, ap, ap₂, sym, _∙_, subst}
 use mathlib.Core.Logic.{⊎-elim}
 use Prim.Native.Nat.{ℕ, zero, suc, _+_, _-_, _%_, _≤_, _<_}
-use mathlib.Core.Bool.{Bool, true, false, cond}
+use mathlib.Core.Bool.{Bool, true, false, cond, true≢false}
 use mathlib.Core.List.{List, [], _∷_}
 use mathlib.Core.Option.{Option, none, some}
 use native.Mathlib.Omega.{arith}
@@ -17,7 +17,7 @@ use Rattle.semantics.specs.Cells.{Setting, Cell, empty, tombstone, live,
 use Rattle.semantics.specs.Step.{placeOf}
 use Rattle.semantics.specs.Map.{Map, withPair, mapOf}
 use Rattle.semantics.proofs.Laws.{Lawful, Accepted}
-use Rattle.semantics.proofs.Lists.{none-some, true-false}
+use Rattle.semantics.proofs.Lists.{none-some}
 
 -- a key is keyed by its own live cell and by no other
 pub keyed-live : {T : Type 0} (k : ℕ) (t : T) → keyed k (live k t) ≡ some t
@@ -94,6 +94,12 @@ looked {T} k (x ∷ cells) = go (keyed k x) refl (looked k cells)
     go none e (nowhere h) = nowhere (λ j. elim j [ zero ↦ e | suc i ↦ h i ])
     go none e (somewhere j f) = somewhere (suc j) f
 
+-- the cell at the distance from h to i is i
+pub distance-back : (c h i : ℕ) → h < c → i < c → (h + (i + c - h) % c) % c ≡ i
+distance-back c h i a b =
+    let e : h + (i + c - h) ≡ i + c = omega arith in
+    add-mod-mod h (i + c - h) c ∙ ap (λ (n : ℕ). n % c) e ∙ add-mod-right i c ∙ mod-eq-of-lt b
+
 module _ (S : Setting) where
   -- where a key stands: in no cell, or in one alone, d cells on from its home with none empty before it
   pub data Located (cells : List (Cell (S .T))) (k : ℕ) : Option (S .T) → Type 0 where
@@ -163,7 +169,7 @@ module _ (S : Setting) where
       elim (decLt d p) [
         | yes q ↦ absurd (none-some (sym (h .foreign d q) ∙ at))
         | no q ↦ elim (decLt p d) [
-          | yes r ↦ absurd (true-false (sym e ∙ before p r))
+          | yes r ↦ absurd (true≢false (sym e ∙ before p r))
           | no r ↦ let same : d ≡ p = omega arith in absurd (none-some (sym f ∙ ap (λ (n : ℕ). keyed k (getD cells (placeOf S k n) empty)) (sym same) ∙ at))
         ]
       ]
@@ -185,12 +191,7 @@ module _ (S : Setting) where
     pub place-onto : (k j : ℕ) → j < S .size → (d : ℕ) × (d < S .size) × (placeOf S k d ≡ j)
     unfolding placeOf
     place-onto k j h =
-        let below : S .home k < S .size = L .home-below k in
-        let e : S .home k + (j + S .size - S .home k) ≡ j + S .size = omega arith in (
-          (j + S .size - S .home k) % S .size,
-          mod-lt (j + S .size - S .home k) size-pos,
-          add-mod-mod (S .home k) (j + S .size - S .home k) (S .size) ∙ ap (λ (n : ℕ). n % S .size) e ∙ add-mod-right j (S .size) ∙ mod-eq-of-lt h,
-        )
+        ((j + S .size - S .home k) % S .size, mod-lt (j + S .size - S .home k) size-pos, distance-back (S .size) (S .home k) j (L .home-below k) h)
 
     -- a search that has passed all c cells has seen none empty
     pub all-used : (cells : List (Cell (S .T))) (k : ℕ) → length cells ≡ S .size

@@ -1,10 +1,12 @@
--- Laws of tests: when two are equal, and what one joined from two says of each.
+-- Laws of tests: when two are equal, what one joined from two says of each, and the test of two cells.
 -- Assumes nothing.
-use mathlib.Core.Path.{_≡_, refl}
+use mathlib.Core.Path.{_≡_, refl, sym, ap₂}
 use Prim.Native.Nat.{ℕ}
 use mathlib.Core.Bool.{Bool, true, false, _&&_, _||_, not, Bool·beq, true≢false}
 use native.Mathlib.Omega.{arith}
 use lib.Dec.{T, eqb, eqb→eq, eqb-refl, leb→le, le→leb}
+use Rattle.semantics.specs.Cells.{Setting, Cell, empty, tombstone, live}
+use Rattle.semantics.specs.Step.{sameCell}
 
 pub eq→eqb : (m n : ℕ) → m ≡ n → T (eqb m n)
 eq→eqb m n e = rw e (eqb-refl n)
@@ -30,6 +32,10 @@ beq-sound false false h = refl
 
 pub passed : (p : Bool) → T p → p ≡ true
 passed p t = same-test p true (λ u. tt) (λ u. t)
+
+pub true-T : (p : Bool) → p ≡ true → T p
+true-T true e = tt
+true-T false e = true≢false (sym e)
 
 pub affirmed : (p : Bool) → not p ≡ false → T p
 affirmed true e = tt
@@ -66,3 +72,22 @@ either false q t f g = g t
 -- a test is nothing beside one that passes wherever it does
 pub absorbs : (p q : Bool) → (T p → T q) → (p || q) ≡ q
 absorbs p q f = same-test (p || q) q (λ t. either p q t f (λ u. u)) (right p q)
+
+-- the test of two cells, by the test of two totals
+pub same-cell-refl : (S : Setting) → ((t : S .T) → T (S .same t t)) → (x : Cell (S .T)) → T (sameCell S x x)
+unfolding sameCell
+same-cell-refl S h empty = tt
+same-cell-refl S h tombstone = tt
+same-cell-refl S h (live k t) = join (eqb k k) (S .same t t) (eqb-refl k) (h t)
+
+pub same-cell-sound : (S : Setting) → ((t u : S .T) → T (S .same t u) → t ≡ u) → (x y : Cell (S .T)) → T (sameCell S x y) → x ≡ y
+unfolding sameCell
+same-cell-sound S h empty empty e = refl
+same-cell-sound S h empty tombstone e = absurd e
+same-cell-sound S h empty (live j u) e = absurd e
+same-cell-sound S h tombstone empty e = absurd e
+same-cell-sound S h tombstone tombstone e = refl
+same-cell-sound S h tombstone (live j u) e = absurd e
+same-cell-sound S h (live k t) empty e = absurd e
+same-cell-sound S h (live k t) tombstone e = absurd e
+same-cell-sound S h (live k t) (live j u) e = let (a, b) = both (eqb k j) (S .same t u) e in ap₂ live (eqb→eq k j a) (h t u b)

@@ -18,7 +18,8 @@ use Rattle.semantics.specs.Map.{Map, Done, Replay, withPair, unchanged, 
 use Rattle.semantics.specs.TotalsRule.{isAdd, isFindOrAdd, onlyFindsAndAdds, isPresent, addsTo, isAdded, amountsAdded, countsAt, roomsToMake}
 use Rattle.semantics.specs.TotalsRule.{CellsSuffice, EveryOperationFinishes, expectedFrom, expected, TotalsRule}
 use Rattle.semantics.proofs.Laws.{Lawful, Accepted}
-use Rattle.semantics.proofs.Lists.{none-some, true-false, cond-swap}
+use Rattle.semantics.proofs.Lists.{none-some, cond-swap}
+use Rattle.semantics.proofs.Tests.{both}
 use Rattle.semantics.proofs.Orders.{fold-any-order, indices, occurs-indices, fold-indices}
 use Rattle.semantics.proofs.Linearizability.{linearizable}
 
@@ -38,14 +39,6 @@ unfolding isSome
 some-map f [] i = refl
 some-map f (x ∷ l) zero = refl
 some-map f (x ∷ l) (suc i) = some-map f l i
-
-and-left : (a b : Bool) → Holds (a && b) → Holds a
-and-left true b h = tt
-and-left false b h = h
-
-and-right : (a b : Bool) → Holds (a && b) → Holds b
-and-right true b h = h
-and-right false b h = absurd h
 
 module _ {T : Type 0} where
   -- the rooms to make are one fewer once a missing room that is added has been made
@@ -106,8 +99,8 @@ module _ {T : Type 0} where
   only-at [] i h e = absurd (none-some e)
   only-at (x ∷ ops) zero {o} h e =
       let q : x ≡ o = cc in
-      subst (λ (y : Operation T). Holds (isFindOrAdd (y .kind))) q (and-left (isFindOrAdd (x .kind)) (onlyFindsAndAdds ops) h)
-  only-at (x ∷ ops) (suc i) h e = only-at ops i (and-right (isFindOrAdd (x .kind)) (onlyFindsAndAdds ops) h) e
+      subst (λ (y : Operation T). Holds (isFindOrAdd (y .kind))) q (both (isFindOrAdd (x .kind)) (onlyFindsAndAdds ops) h .0)
+  only-at (x ∷ ops) (suc i) h e = only-at ops i (both (isFindOrAdd (x .kind)) (onlyFindsAndAdds ops) h .1) e
 
   added-at : (ops : List (Operation T)) (i : ℕ) {o : Operation T} → getElem? ops i ≡ some o → isAdd (o .kind) ≡ true → isAdded (o .key) ops ≡ true
   unfolding isAdded addsTo

@@ -7,7 +7,7 @@ use mathlib.Core.Bool.{Bool, true, false, cond, _||_, _&&_}
 use mathlib.Core.List.{List, [], _∷_, map}
 use mathlib.Core.Option.{none, some}
 use native.Mathlib.Omega.{arith}
-use lib.Dec.{T, eqb, ltb, eqb→eq, eqb-refl, ltb→lt}
+use lib.Dec.{T, eqb, ltb, eqb→eq, ltb→lt}
 use borrow.Author.Tests.{eqb-true, ne-eqb}
 use lib.ListN.{length, getD}
 use Rattle.semantics.specs.Totals.{Total, plusAt, narrow, narrowCeiling}
@@ -15,7 +15,7 @@ use Rattle.semantics.specs.Cells.{Setting, Cell, empty, tombstone, live,
 use Rattle.semantics.specs.Step.{Held, vacant, mine, effect, heldCell, fateCell, newCell, sameCell}
 use Rattle.semantics.specs.Words.{isLiveKey, keyOf, totalBits, tombstoneWord, cellAllowed, decode, encode, narrowSetting}
 use Rattle.semantics.specs.Words.{kindBits, operationKey, amountBits, kindOf, kindNumber, isKind, takesAmount, operationAllowed, decodeOperation, encodeOperation, bitsAboveKind}
-use Rattle.semantics.proofs.Tests.{eq→eqb, same-test, passed, join, both, either}
+use Rattle.semantics.proofs.Tests.{eq→eqb, same-test, passed, both, either, same-cell-refl, same-cell-sound}
 use Rattle.semantics.proofs.Narrow.{narrow-plus, same-total-refl, same-total-sound}
 
 -- a key and a total that fit into a word: those of a live cell, and those of an operation
@@ -169,33 +169,14 @@ decode-encode-operation o p =
     λ i. record { kind = kind i; key = key i; amount = total i }
 
 -- the words are equal where the cells are
-module _ (S : Setting) (same-refl : (t : S .T) → T (S .same t t)) (same-sound : (t u : S .T) → T (S .same t u) → t ≡ u) where
-  pub same-cell-refl : (x : Cell (S .T)) → T (sameCell S x x)
-  unfolding sameCell
-  same-cell-refl empty = tt
-  same-cell-refl tombstone = tt
-  same-cell-refl (live k t) = join (eqb k k) (S .same t t) (eqb-refl k) (same-refl t)
-
-  pub same-cell-sound : (x y : Cell (S .T)) → T (sameCell S x y) → x ≡ y
-  unfolding sameCell
-  same-cell-sound empty empty h = refl
-  same-cell-sound empty tombstone h = absurd h
-  same-cell-sound empty (live j u) h = absurd h
-  same-cell-sound tombstone empty h = absurd h
-  same-cell-sound tombstone tombstone h = refl
-  same-cell-sound tombstone (live j u) h = absurd h
-  same-cell-sound (live k t) empty h = absurd h
-  same-cell-sound (live k t) tombstone h = absurd h
-  same-cell-sound (live k t) (live j u) h = let (a, b) = both (eqb k j) (S .same t u) h in ap₂ live (eqb→eq k j a) (same-sound t u b)
-
 pub decode-injective : (a b : ℕ) → T (cellAllowed a) → T (cellAllowed b) → decode a ≡ decode b → a ≡ b
 decode-injective a b p q e = sym (encode-decode a p) ∙ ap encode e ∙ encode-decode b q
 
 pub same-words : (c a b : ℕ) → T (cellAllowed a) → T (cellAllowed b) → sameCell (narrowSetting c) (decode a) (decode b) ≡ eqb a b
 same-words c a b p q =
     same-test (sameCell (narrowSetting c) (decode a) (decode b)) (eqb a b)
-    (λ t. eq→eqb a b (decode-injective a b p q (same-cell-sound (narrowSetting c) same-total-refl same-total-sound (decode a) (decode b) t)))
-    (λ t. subst (λ v. T (sameCell (narrowSetting c) (decode a) (decode v))) (eqb→eq a b t) (same-cell-refl (narrowSetting c) same-total-refl same-total-sound (decode a)))
+    (λ t. eq→eqb a b (decode-injective a b p q (same-cell-sound (narrowSetting c) same-total-sound (decode a) (decode b) t)))
+    (λ t. subst (λ v. T (sameCell (narrowSetting c) (decode a) (decode v))) (eqb→eq a b t) (same-cell-refl (narrowSetting c) same-total-refl (decode a)))
 
 pub decode-empty : (w : ℕ) → T (cellAllowed w) → isEmpty (decode w) ≡ eqb w 0
 unfolding decode tombstoneWord isLiveKey isEmpty
@@ -204,11 +185,11 @@ decode-empty =
     (λ k t l b. rw (decode-live k t l b) (sym (ne-eqb (k * 65536 + t) 0 (omega (arith, live-bounds k l)))))
 
 -- a cell that has key k and total t is theirs, and so is its word
-pub keyed-live : {T : Type 0} (k : ℕ) (x : Cell T) (t : T) → keyed k x ≡ some t → x ≡ live k t
+pub keyed-is-live : {T : Type 0} (k : ℕ) (x : Cell T) (t : T) → keyed k x ≡ some t → x ≡ live k t
 unfolding keyed
-keyed-live k empty t e = cc
-keyed-live k tombstone t e = cc
-keyed-live k (live j u) t e = go (eqb k j) refl e
+keyed-is-live k empty t e = cc
+keyed-is-live k tombstone t e = cc
+keyed-is-live k (live j u) t e = go (eqb k j) refl e
   where
     go : (b : Bool) → eqb k j ≡ b → cond b (some u) none ≡ some t → live j u ≡ live k t
     go true o f = let p = eqb-true k j o in cc
@@ -217,7 +198,7 @@ keyed-live k (live j u) t e = go (eqb k j) refl e
 pub decode-keyed : (k w : ℕ) (t : Total) → T (cellAllowed w) → keyed k (decode w) ≡ some t → Packed k t × (w ≡ k * 65536 + t .amount)
 unfolding encode
 decode-keyed k w t h e =
-    let f = keyed-live k (decode w) t e in
+    let f = keyed-is-live k (decode w) t e in
     (subst Packs f (decode-packs w h), sym (encode-decode w h) ∙ ap encode f)
 
 -- a list comes back through two maps where each of its elements does
