@@ -3,6 +3,7 @@ pub mod Tests
 pub mod Laws
 pub mod Table
 pub mod Steps
+pub mod Entries
 pub mod Linearizability
 pub mod Orders
 pub mod TotalsHold
@@ -10,3 +11,4 @@ pub mod Narrow
 pub mod Words
 pub mod Start
 pub mod Cases
+pub mod WordsHold

@@ -14,11 +14,12 @@ use lib.ListN.{length, getD, set, getElem?, length-append}
 use lib.Seq.{set-getD}
 use Rattle.semantics.specs.Cells.{Setting, Cell, empty, Operation, Answer, keyed, lookup, usedCells}
 use Rattle.semantics.specs.Step.{Turn, finishes, Pending, reading, holding, State, pending, finished, Row, Machine, Stepped, fresh, after, logged, countLost, idled, foldl, answered, answerIn, isSome, finishedIn, doneCount}
-use Rattle.semantics.specs.Step.{step, passed, placeOf, taken, act, entered, entry, freshRow, begin, run}
+use Rattle.semantics.specs.Step.{step, passed, placeOf, taken, entry, freshRow, begin, run}
 use Rattle.semantics.specs.Map.{Map, Done, Replay, mapOf, occurs, performed, noted, replayOne, replay, Linearizable}
 use Rattle.semantics.proofs.Laws.{Lawful, Accepted}
-use Rattle.semantics.proofs.Lists.{none-some, elem-set-same, elem-set-other, elem-map, map-set-elem, map-snoc, foldl-snoc, occurs-snoc, map-on}
+use Rattle.semantics.proofs.Lists.{none-some, elem-set-same, elem-set-other, elem-set-all, elem-map, elem-map-all, map-set-elem, map-snoc, foldl-snoc, occurs-snoc, map-on}
 use Rattle.semantics.proofs.Table.{Agrees, Probed, own-place, located-lookup, size-pos, start-agrees}
+use Rattle.semantics.proofs.Entries.{by-entry, by-run}
 use Rattle.semantics.proofs.Steps.{Standing, Advance, goes-on, completes, advance}
 
 module _ {T : Type 0} where
@@ -81,14 +82,6 @@ module _ (S : Setting) (L : Lawful S) (start : List (Cell (S .T))) (ops : List (
         filled = λ e h. absurd (not-suc-le-zero h);
       }
 
-  all-at-home : (l : List (Operation (S .T))) (i : ℕ) (r : Row (S .T)) → getElem? (map (freshRow S) l) i ≡ some r → StandsIn start (r .operation) (r .state)
-  unfolding freshRow
-  all-at-home [] i r e = absurd (none-some e)
-  all-at-home (o ∷ l) zero r e =
-      let q : record { operation = o; state = fresh } ≡ r = cc in
-      subst (λ (x : Row (S .T)). StandsIn start (x .operation) (x .state)) q (at-home o)
-  all-at-home (o ∷ l) (suc i) r e = all-at-home l i r e
-
   holds-first : Accepted S start → Holds start (map (freshRow S) ops) []
   unfolding replay foldl occurs freshRow fresh finishedIn answered isSome
   holds-first ok =
@@ -98,7 +91,7 @@ module _ (S : Setting) (L : Lawful S) (start : List (Cell (S .T))) (ops : List (
         once = λ i. rw (fresh-rows ops i (freshRow S) (λ o. refl));
         counted = none-done ops;
         operations = same-operations ops;
-        standing = all-at-home ops;
+        standing = elem-map-all (freshRow S) (λ (x : Row (S .T)). StandsIn start (x .operation) (x .state)) ops (λ i o e. at-home o);
       }
 
   module _ (cells : List (Cell (S .T))) (rows : List (Row (S .T))) (log : List ℕ) (H : Holds cells rows log) (i : ℕ) (r : Row (S .T)) (at : getElem? rows i ≡ some r) where
@@ -126,14 +119,8 @@ module _ (S : Setting) (L : Lawful S) (start : List (Cell (S .T))) (ops : List (
     standing-set : (cells′ : List (Cell (S .T))) (r′ : Row (S .T)) → ((k p : ℕ) → Probed S cells k p → Probed S cells′ k p)
         → StandsIn cells′ (r′ .operation) (r′ .state) → (j : ℕ) (x : Row (S .T)) → getElem? (set rows i r′) j ≡ some x → StandsIn cells′ (x .operation) (x .state)
     unfolding StandsIn Standing
-    standing-set cells′ r′ keeps new j x e =
-        elim (ℕ-discrete j i) [
-          | yes q ↦
-              let f : some r′ ≡ some x = sym (elem-set-same rows i r′ at) ∙ ap (λ (n : ℕ). getElem? (set rows i r′) n) (sym q) ∙ e in
-              let same : r′ ≡ x = cc in
-              subst (λ (y : Row (S .T)). StandsIn cells′ (y .operation) (y .state)) same new
-          | no q ↦ keep (x .operation) (x .state) (H .standing j x (sym (elem-set-other rows i j r′ q) ∙ e))
-        ]
+    standing-set cells′ r′ keeps new =
+        elem-set-all (λ (x : Row (S .T)). StandsIn cells′ (x .operation) (x .state)) rows i r′ new (λ j x e. keep (x .operation) (x .state) (H .standing j x e))
       where
         keep : (o : Operation (S .T)) (s : State (S .T)) → StandsIn cells o s → StandsIn cells′ o s
         keep o (pending (reading p)) h = keeps (o .key) p h
@@ -248,45 +235,32 @@ module _ (S : Setting) (L : Lawful S) (start : List (Cell (S .T))) (ops : List (
   unfoldable HoldsOf : Machine (S .T) → Type 0
   HoldsOf m = Holds (m .cells) (m .rows) (m .log)
 
-  -- what follows of each entry: an idle one changes nothing, any other is a step
-  module _ (P : Machine (S .T) → Type 0) (m : Machine (S .T)) (H : HoldsOf m) (i : ℕ) (idle : P (idled m))
-      (steps : (r : Row (S .T)) (s : Pending (S .T)) → getElem? (m .rows) i ≡ some r → isSome (answered (r .state)) ≡ false
+  -- a step of an unfinished row comes to one of the two
+  advances : (m : Machine (S .T)) → HoldsOf m → (i : ℕ) (r : Row (S .T)) (s : Pending (S .T)) → getElem? (m .rows) i ≡ some r → r .state ≡ pending s
       → Advance S L (m .cells) (replay S start ops (m .log) .now) (r .operation) (passed S s) (placeOf S (r .operation .key) (passed S s))
       (step S (r .operation) s (getD (m .cells) (placeOf S (r .operation .key) (passed S s)) empty))
-      → P (taken S m i (r .operation) s)) where
-    by-entry : P (entry S m i)
-    unfolding HoldsOf entry entered act StandsIn answered isSome
-    by-entry = named (getElem? (m .rows) i) refl
-      where
-        acts : (r : Row (S .T)) → getElem? (m .rows) i ≡ some r → (s : State (S .T)) → r .state ≡ s → P (act S m i (r .operation) s)
-        acts r at (finished a) e = idle
-        acts r at (pending s) e =
-            steps r s at (rw e)
-            (advance S L (m .cells) (replay S start ops (m .log) .now) (H .agrees) (r .operation) s
-            (subst (λ (x : State (S .T)). StandsIn (m .cells) (r .operation) x) e (H .standing i r at)))
+  unfolding HoldsOf StandsIn
+  advances m H i r s at e =
+      advance S L (m .cells) (replay S start ops (m .log) .now) (H .agrees) (r .operation) s
+      (subst (λ (x : State (S .T)). StandsIn (m .cells) (r .operation) x) e (H .standing i r at))
 
-        named : (o : Option (Row (S .T))) → getElem? (m .rows) i ≡ o → P (entered S m i o)
-        named none at = idle
-        named (some r) at = acts r at (r .state) refl
+  unfinished : (r : Row (S .T)) (s : Pending (S .T)) → r .state ≡ pending s → isSome (answered (r .state)) ≡ false
+  unfolding answered isSome
+  unfinished r s e = rw e
 
-  holds-entry : (m : Machine (S .T)) → HoldsOf m → (i : ℕ) → HoldsOf (entry S m i)
+  holds-entry : (m : Machine (S .T)) (i : ℕ) → HoldsOf m → HoldsOf (entry S m i)
   unfolding HoldsOf idled taken
-  holds-entry m H i =
-      by-entry HoldsOf m H i H
-      (λ r s at h adv. holds-step (m .cells) (m .rows) (m .log) H i r at h (passed S s) (placeOf S (r .operation .key) (passed S s))
-      (step S (r .operation) s (getD (m .cells) (placeOf S (r .operation .key) (passed S s)) empty)) adv)
+  holds-entry m i H =
+      by-entry S HoldsOf m i H
+      (λ r s at e. holds-step (m .cells) (m .rows) (m .log) H i r at (unfinished r s e) (passed S s) (placeOf S (r .operation .key) (passed S s))
+      (step S (r .operation) s (getD (m .cells) (placeOf S (r .operation .key) (passed S s)) empty)) (advances m H i r s at e))
 
   entry-untouched : (m : Machine (S .T)) → HoldsOf m → (i : ℕ) → finishedIn (entry S m i .rows) i ≡ finishedIn (m .rows) i → entry S m i .cells ≡ m .cells
   unfolding HoldsOf idled taken
   entry-untouched m H i =
-      by-entry (λ (n : Machine (S .T)). finishedIn (n .rows) i ≡ finishedIn (m .rows) i → n .cells ≡ m .cells) m H i (λ e. refl)
-      (λ r s at h adv. step-untouched (m .cells) (m .rows) (m .log) H i r at h (passed S s) (placeOf S (r .operation .key) (passed S s))
-      (step S (r .operation) s (getD (m .cells) (placeOf S (r .operation .key) (passed S s)) empty)) adv)
-
-  holds-run : (m : Machine (S .T)) → HoldsOf m → (schedule : List ℕ) → HoldsOf (foldl (entry S) m schedule)
-  unfolding foldl
-  holds-run m H [] = H
-  holds-run m H (i ∷ schedule) = holds-run (entry S m i) (holds-entry m H i) schedule
+      by-entry S (λ (n : Machine (S .T)). finishedIn (n .rows) i ≡ finishedIn (m .rows) i → n .cells ≡ m .cells) m i (λ e. refl)
+      (λ r s at e. step-untouched (m .cells) (m .rows) (m .log) H i r at (unfinished r s e) (passed S s) (placeOf S (r .operation .key) (passed S s))
+      (step S (r .operation) s (getD (m .cells) (placeOf S (r .operation .key) (passed S s)) empty)) (advances m H i r s at e))
 
   pub linearizable : Accepted S start → (schedule : List ℕ) → Linearizable S start ops (run S start ops schedule)
   unfolding HoldsOf run begin
@@ -303,4 +277,4 @@ module _ (S : Setting) (L : Lawful S) (start : List (Cell (S .T))) (ops : List (
       }
     where
       H : HoldsOf (run S start ops schedule)
-      H = holds-run (begin S start ops) (holds-first ok) schedule
+      H = by-run S HoldsOf holds-entry (begin S start ops) (holds-first ok) schedule

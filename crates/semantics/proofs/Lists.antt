@@ -1,6 +1,6 @@
 -- Lists: an element after a store, a last element more, a fold, and how often a number occurs.
 -- Assumes nothing.
-use mathlib.Core.Path.{_≡_, refl, ap, ap₂, _∙_}
+use mathlib.Core.Path.{_≡_, refl, ap, ap₂, _∙_, subst}
 use Prim.Native.Nat.{ℕ, zero, suc, _<_}
 use mathlib.Core.Bool.{Bool, true, false, cond}
 use mathlib.Core.List.{List, [], _∷_, _++_, map}
@@ -28,11 +28,25 @@ module _ {A : Type 0} where
   elem-set-other (x ∷ l) (suc i) zero b h = refl
   elem-set-other (x ∷ l) (suc i) (suc j) b h = elem-set-other l i j b (λ e. h (ap suc e))
 
+  -- what holds of each element and of a stored one holds of each after the store
+  pub elem-set-all : (P : A → Type 0) (l : List A) (i : ℕ) (b : A) → P b → ((j : ℕ) (x : A) → getElem? l j ≡ some x → P x)
+      → (j : ℕ) (x : A) → getElem? (set l i b) j ≡ some x → P x
+  elem-set-all P [] i b p h j x e = absurd (none-some e)
+  elem-set-all P (y ∷ l) zero b p h zero x e = let q : b ≡ x = cc in subst P q p
+  elem-set-all P (y ∷ l) zero b p h (suc j) x e = h (suc j) x e
+  elem-set-all P (y ∷ l) (suc i) b p h zero x e = h 0 x e
+  elem-set-all P (y ∷ l) (suc i) b p h (suc j) x e = elem-set-all P l i b p (λ n. h (suc n)) j x e
+
 module _ {A B : Type 0} (f : A → B) where
   pub elem-map : (l : List A) (i : ℕ) {a : A} → getElem? l i ≡ some a → getElem? (map f l) i ≡ some (f a)
   elem-map [] i e = absurd (none-some e)
   elem-map (x ∷ l) zero {a} e = let h : x ≡ a = cc in ap (λ (y : A). some (f y)) h
   elem-map (x ∷ l) (suc i) e = elem-map l i e
+
+  pub elem-map-all : (P : B → Type 0) (l : List A) → ((i : ℕ) (a : A) → getElem? l i ≡ some a → P (f a)) → (i : ℕ) (b : B) → getElem? (map f l) i ≡ some b → P b
+  elem-map-all P [] h i b e = absurd (none-some e)
+  elem-map-all P (x ∷ l) h zero b e = let q : f x ≡ b = cc in subst P q (h 0 x refl)
+  elem-map-all P (x ∷ l) h (suc i) b e = elem-map-all P l (λ n. h (suc n)) i b e
 
   pub map-set-elem : (l : List A) (i : ℕ) {a : A} (b : A) → getElem? l i ≡ some a → f b ≡ f a → map f (set l i b) ≡ map f l
   map-set-elem [] i b e h = refl
@@ -42,6 +56,10 @@ module _ {A B : Type 0} (f : A → B) where
   pub map-snoc : (l : List A) (a : A) → map f (l ++ (a ∷ [])) ≡ map f l ++ (f a ∷ [])
   map-snoc [] a = refl
   map-snoc (x ∷ l) a = ap (λ (r : List B). f x ∷ r) (map-snoc l a)
+
+pub map-map : {A B C : Type 0} (f : B → C) (g : A → B) (l : List A) → map f (map g l) ≡ map (λ a. f (g a)) l
+map-map f g [] = refl
+map-map {C = C} f g (x ∷ l) = ap (λ (r : List C). f (g x) ∷ r) (map-map f g l)
 
 -- a fold over one element more is one step more
 pub foldl-snoc : {A B : Type 0} (f : B → A → B) (b : B) (l : List A) (a : A) → foldl f b (l ++ (a ∷ [])) ≡ f (foldl f b l) a

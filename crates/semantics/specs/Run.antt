@@ -2,12 +2,12 @@
 -- holds after it, for every call; then demands 2 and 3 on the words that the caller sees.
 -- Assumes nothing.
 use mathlib.Core.Path.{_≡_}
-use Prim.Native.Nat.{ℕ, suc, _+_, min, _<_}
-use mathlib.Core.Bool.{Bool, true, false, cond}
+use Prim.Native.Nat.{ℕ, _+_, min, _≤_, _<_}
+use mathlib.Core.Bool.{Bool, true, false}
 use mathlib.Core.List.{List, [], _∷_, _++_, map}
 use mathlib.Core.Option.{Option, none, some}
 use lib.Dec.{T, eqb}
-use lib.ListN.{length, getD, take, drop}
+use lib.ListN.{length, getD, drop}
 use Rattle.semantics.specs.declared.Refusal.{Refusal}
 use Rattle.semantics.specs.declared.Outcome.{Outcome}
 use Rattle.semantics.specs.Totals.{Total, amounts, narrowCeiling}
@@ -65,12 +65,13 @@ module _ (cells operations schedule answers log : List ℕ) where
         logLength = length log;
       }
 
+  unfoldable pub resultIf : Bool → Result
+  resultIf true = acceptedResult (machine cells operations schedule) answers log
+  resultIf false = refusedResult (runRefusal callOf) cells answers log
+
+  -- "An accepted call gives number 0 and place 0."
   unfoldable pub runResult : Result
-  runResult =
-      elim (eqb (runRefusal callOf .number) 0) [
-        | true ↦ acceptedResult (machine cells operations schedule) answers log
-        | false ↦ refusedResult (runRefusal callOf) cells answers log
-      ]
+  runResult = resultIf (eqb (runRefusal callOf .number) 0)
 
 -- a room's total in packed cells, if it is present
 unfoldable pub amountIn : Option Total → Option ℕ
@@ -84,21 +85,23 @@ roomTotal k cells = amountIn (lookup k (map decode cells))
 unfoldable pub replayWords : List ℕ → List ℕ → List ℕ → Replay Total
 replayWords cells operations log = replay (narrowSetting (length cells)) (map decode cells) (map decodeOperation operations) log
 
--- Demand 2 on words. From cells and operations, a run has left cells′ and answers′; log′ is the log that it wrote.
+-- Demand 2 on words: from cells and operations a run has left cells′ and answers′, and log′ is the log that it wrote.
 pub record LinearizableWords (cells operations cells′ answers′ log′ : List ℕ) : Type 0 where
-  -- each finished operation's answer is the map's
+  -- each finished operation's answer is the map's, the operations taken in log order
   pub answers : map (λ i. getD answers′ i 0) log′ ≡ map (λ a. answerWord (some a)) (replayWords cells operations log′ .answers)
-  -- an operation that is not in the log is unfinished, and its answer is 0; one that is in the log is there once
+  -- the log names operations, none of them twice; one that it does not name is unfinished and has answer 0
+  pub named : (i : ℕ) → 0 < occurs i log′ → i < length operations
+  pub once : (i : ℕ) → occurs i log′ ≤ 1
   pub unfinished : (i : ℕ) → i < length operations → occurs i log′ ≡ 0 → getD answers′ i 0 ≡ 0
-  pub once : (i : ℕ) → i < length operations → (occurs i log′ ≡ 0 → ⊥) → occurs i log′ ≡ 1
   -- each room's total is the map's, and used is the number of cells not empty
   pub totals : (k : ℕ) → roomTotal k cells′ ≡ amountIn (replayWords cells operations log′ .now .pairs k)
   pub used : usedCells (map decode cells′) ≡ replayWords cells operations log′ .now .used
   -- no key has two live cells
-  pub distinct : (i j : ℕ) → i < length cells′ → j < length cells′
-      → T (isLiveKey (keyOf (getD cells′ i 0)))
-      → keyOf (getD cells′ i 0) ≡ keyOf (getD cells′ j 0)
-      → i ≡ j
+  pub distinct : (i j : ℕ) → T (isLiveKey (keyOf (getD cells′ i 0))) → keyOf (getD cells′ i 0) ≡ keyOf (getD cells′ j 0) → i ≡ j
+  -- an unfinished operation has changed no cell: one more entry, after any others, that lets the log be leaves every word as it was
+  pub untouched : (entries : List ℕ) (i : ℕ)
+      → machine cells operations (entries ++ (i ∷ [])) .log ≡ machine cells operations entries .log
+      → map encode (machine cells operations (entries ++ (i ∷ [])) .cells) ≡ map encode (machine cells operations entries .cells)
 
 -- "they and the starting total are summed as whole numbers before the sum is held"
 unfoldable pub heldSum : Option ℕ → List Total → Option ℕ
@@ -106,8 +109,8 @@ heldSum none [] = none
 heldSum none (a ∷ more) = some (min (amounts (a ∷ more)) narrowCeiling)
 heldSum (some start) added = some (min (start + amounts added) narrowCeiling)
 
--- Demand 3 on words, in whole numbers: with only finds and adds, all finished and cells enough, each room ends with the starting total and
--- all amounts added to it, held at 65,535.
+-- Demand 3 on words, in whole numbers: from cells and operations a run has left cells′ with done operations finished. With only finds and
+-- adds, all finished and cells enough, each room has the starting total and all amounts added to it, held at 65,535.
 unfoldable pub TotalsWords : List ℕ → List ℕ → List ℕ → ℕ → Type 0
 TotalsWords cells operations cells′ done =
     T (onlyFindsAndAdds (map decodeOperation operations))
