@@ -1,40 +1,19 @@
--- Document 01, "Worked in the room table": its starred cases, the rows of one list. proofs/Cases.antt covers them by one claim, `holds` of each.
+-- Document 01, "Worked in the room table": its starred cases, the rows of one list. proofs/Cases.antt covers them by one claim, that each
+-- holds; and it shows two runs of which all that demand 3 asks is true.
 -- Tables have 8 cells where no other number stands. Slices for answers and log are as long as the operations, and hold 9 before a run.
 -- Assumes nothing.
-use Prim.Native.Nat.{ℕ, _+_, _*_, _^_}
+use mathlib.Core.Path.{_≡_}
+use Prim.Native.Nat.{ℕ, zero, suc, _+_, _*_, _^_}
 use mathlib.Core.Bool.{Bool, true, false, _&&_, Bool·beq}
-use mathlib.Core.List.{List, [], _∷_}
-use lib.Dec.{eqb}
+use mathlib.Core.List.{List, [], _∷_, _++_, map}
+use lib.Dec.{T, eqb}
 use lib.ListN.{length, set, replicate}
 use Rattle.semantics.specs.Totals.{plusAt, narrow, narrowCeiling}
-use Rattle.semantics.specs.Words.{roomHome, roomSum, tombstoneWord}
+use Rattle.semantics.specs.TotalsRule.{onlyFindsAndAdds, CellsSuffice}
+use Rattle.semantics.specs.Words.{roomHome, roomSum, decode, decodeOperation, narrowSetting}
 use Rattle.semantics.specs.Run.{Result, runResult}
 
--- a cell's number, key and total, as in a CL record; an operation's kind, key and amount, as in an OP record
-pub record Placed : Type 0 where
-  pub number : ℕ
-  pub key : ℕ
-  pub total : ℕ
-
--- what a run is to leave: the cells, the answers, the log, and the returned record
-pub record Left : Type 0 where
-  pub cells : List ℕ
-  pub answers : List ℕ
-  pub log : List ℕ
-  pub done : ℕ
-  pub lost : ℕ
-  pub idle : ℕ
-
-pub data Case : Type 0 where
-  -- the home of a key in c cells
-  homeIs : ℕ → ℕ → ℕ → Case
-  -- the sum of two totals, and whether it is pinned
-  sumIs : ℕ → ℕ → ℕ → Bool → Case
-  -- what a run of cells, operations and a schedule leaves
-  leaves : List ℕ → List ℕ → List ℕ → Left → Case
-  -- the number and the place of a refusal of cells, with no operations
-  refused : List ℕ → ℕ → ℕ → Case
-
+-- words as the document's cases write them: a cell's key and total; an operation's kind, key and amount; an answer's code and total
 abbrev cell : ℕ → ℕ → ℕ
 cell k t = k * 65536 + t
 
@@ -44,13 +23,53 @@ operation kind k amount = kind * 2 ^ 32 + k * 65536 + amount
 abbrev answer : ℕ → ℕ → ℕ
 answer code t = code * 65536 + t
 
--- c cells, empty but for those named
+-- c cells, empty but for those named by number, key and total
+pub record Placed : Type 0 where
+  pub number : ℕ
+  pub key : ℕ
+  pub total : ℕ
+
+abbrev at : ℕ → ℕ → ℕ → Placed
+at n k t = record { number = n; key = k; total = t }
+
 abbrev table : ℕ → List Placed → List ℕ
 table c [] = replicate c 0
 table c (p ∷ more) = set (table c more) (p .number) (cell (p .key) (p .total))
 
-abbrev at : ℕ → ℕ → ℕ → Placed
-at n k t = record { number = n; key = k; total = t }
+-- what a run is made of, and what it leaves
+pub record Job : Type 0 where
+  pub cells : List ℕ
+  pub operations : List ℕ
+  pub schedule : List ℕ
+
+pub record Left : Type 0 where
+  pub cells : List ℕ
+  pub answers : List ℕ
+  pub log : List ℕ
+  pub done : ℕ
+  pub lost : ℕ
+  pub idle : ℕ
+
+abbrev job : List ℕ → List ℕ → List ℕ → Job
+job cells operations schedule = record { cells = cells; operations = operations; schedule = schedule }
+
+abbrev left : List ℕ → List ℕ → List ℕ → ℕ → ℕ → ℕ → Left
+left cells answers log done lost idle = record { cells = cells; answers = answers; log = log; done = done; lost = lost; idle = idle }
+
+unfoldable pub resultOf : Job → Result
+resultOf j =
+    let slice : List ℕ = replicate (length (j .operations)) 9 in
+    runResult (j .cells) (j .operations) (j .schedule) slice slice
+
+pub data Case : Type 0 where
+  -- the home of a key in c cells
+  homeIs : ℕ → ℕ → ℕ → Case
+  -- the sum of two totals, and whether it is pinned
+  sumIs : ℕ → ℕ → ℕ → Bool → Case
+  -- what a run leaves
+  leaves : Job → Left → Case
+  -- the number and the place of a refusal of cells, with no operations
+  refused : List ℕ → ℕ → ℕ → Case
 
 unfoldable pub sameList : List ℕ → List ℕ → Bool
 sameList [] [] = true
@@ -58,29 +77,26 @@ sameList [] (y ∷ ys) = false
 sameList (x ∷ xs) [] = false
 sameList (x ∷ xs) (y ∷ ys) = eqb x y && sameList xs ys
 
-unfoldable pub leftBy : Left → Result → Bool
-leftBy l r =
-    sameList (l .cells) (r .cells) && sameList (l .answers) (r .answers) && sameList (l .log) (r .log)
-    && eqb 0 (r .outcome .number) && eqb 0 (r .outcome .place)
+unfoldable pub leftBy : ℕ → ℕ → Left → Result → Bool
+leftBy number place l r =
+    eqb number (r .outcome .number) && eqb place (r .outcome .place)
+    && sameList (l .cells) (r .cells) && sameList (l .answers) (r .answers) && sameList (l .log) (r .log)
     && eqb (l .done) (r .outcome .done) && eqb (l .lost) (r .outcome .lost) && eqb (l .idle) (r .outcome .idle)
-
--- a refusal leaves every slice as it was and all counts 0
-unfoldable pub refusedBy : List ℕ → ℕ → ℕ → Result → Bool
-refusedBy cells number place r =
-    eqb number (r .outcome .number) && eqb place (r .outcome .place) && sameList cells (r .cells)
-    && sameList [] (r .answers) && sameList [] (r .log)
-    && eqb 0 (r .outcome .done) && eqb 0 (r .outcome .lost) && eqb 0 (r .outcome .idle)
 
 unfoldable pub holds : Case → Bool
 holds (homeIs k c h) = eqb (roomHome k c) h
 holds (sumIs a b s p) = eqb (roomSum a b) s && Bool·beq (plusAt narrowCeiling (narrow a) (narrow b) .pinned) p
-holds (leaves cells operations schedule l) =
-    leftBy l (runResult cells operations schedule (replicate (length operations) 9) (replicate (length operations) 9))
-holds (refused cells number place) = refusedBy cells number place (runResult cells [] [] [] [])
+holds (leaves j l) = leftBy 0 0 l (resultOf j)
+holds (refused cells number place) = leftBy number place (left cells [] [] 0 0 0) (resultOf (job cells [] []))
 
 unfoldable pub allHold : List Case → Bool
 allHold [] = true
 allHold (c ∷ more) = holds c && allHold more
+
+-- "A run in full": OP records of kind 4 and the rows of the one SC record
+unfoldable pub inFull : Job
+inFull =
+    job (table 8 []) (operation 4 1 40 ∷ operation 4 9 25 ∷ operation 4 1 65500 ∷ []) (0 ∷ 1 ∷ 2 ∷ 0 ∷ 1 ∷ 2 ∷ 1 ∷ 1 ∷ 2 ∷ 2 ∷ 1 ∷ 0 ∷ [])
 
 -- "Keys 1 to 8 each at home fill the table." Their totals are left open: 10 times the key here.
 abbrev fullTable : List ℕ
@@ -94,60 +110,22 @@ cases =
     -- "65,534 + 0 is true; 65,534 + 1 and 65,535 + 0 are pinned."
     ∷ sumIs 65534 0 65534 false ∷ sumIs 65534 1 65535 true ∷ sumIs 65535 0 65535 true
     -- "The run in full."
-    ∷ leaves (table 8 [])
-    (operation 4 1 40 ∷ operation 4 9 25 ∷ operation 4 1 65500 ∷ [])
-    (0 ∷ 1 ∷ 2 ∷ 0 ∷ 1 ∷ 2 ∷ 1 ∷ 1 ∷ 2 ∷ 2 ∷ 1 ∷ 0 ∷ [])
-    (record {
-      cells = table 8 (at 4 1 65535 ∷ at 5 9 25 ∷ []);
-      answers = answer 2 0 ∷ answer 2 0 ∷ answer 4 40 ∷ [];
-      log = 0 ∷ 2 ∷ 1 ∷ [];
-      done = 3;
-      lost = 2;
-      idle = 1;
-    })
+    ∷ leaves inFull
+    (left (table 8 (at 4 1 65535 ∷ at 5 9 25 ∷ [])) (answer 2 0 ∷ answer 2 0 ∷ answer 4 40 ∷ []) (0 ∷ 2 ∷ 1 ∷ []) 3 2 1)
     -- "Cells 4 = (1, 40), 5 = (9, 25); rows remove 1, insert (9, 7); schedule 0 0 1 1: removed 40, present 25, cell 4 gone."
-    ∷ leaves (table 8 (at 4 1 40 ∷ at 5 9 25 ∷ []))
-    (operation 5 1 0 ∷ operation 2 9 7 ∷ [])
-    (0 ∷ 0 ∷ 1 ∷ 1 ∷ [])
-    (record {
-      cells = table 8 (at 4 65535 0 ∷ at 5 9 25 ∷ []);
-      answers = answer 5 40 ∷ answer 3 25 ∷ [];
-      log = 0 ∷ 1 ∷ [];
-      done = 2;
-      lost = 0;
-      idle = 0;
-    })
+    ∷ leaves (job (table 8 (at 4 1 40 ∷ at 5 9 25 ∷ [])) (operation 5 1 0 ∷ operation 2 9 7 ∷ []) (0 ∷ 0 ∷ 1 ∷ 1 ∷ []))
+    (left (table 8 (at 4 65535 0 ∷ at 5 9 25 ∷ [])) (answer 5 40 ∷ answer 3 25 ∷ []) (0 ∷ 1 ∷ []) 2 0 0)
     -- "Cell 4 = (1, 40); rows add (1, 5), add (1, 7); schedule 0 1 0 1 1 1: changed 40, changed 45, total 52, lost 1."
-    ∷ leaves (table 8 (at 4 1 40 ∷ []))
-    (operation 4 1 5 ∷ operation 4 1 7 ∷ [])
-    (0 ∷ 1 ∷ 0 ∷ 1 ∷ 1 ∷ 1 ∷ [])
-    (record {
-      cells = table 8 (at 4 1 52 ∷ []);
-      answers = answer 4 40 ∷ answer 4 45 ∷ [];
-      log = 0 ∷ 1 ∷ [];
-      done = 2;
-      lost = 1;
-      idle = 0;
-    })
+    ∷ leaves (job (table 8 (at 4 1 40 ∷ [])) (operation 4 1 5 ∷ operation 4 1 7 ∷ []) (0 ∷ 1 ∷ 0 ∷ 1 ∷ 1 ∷ 1 ∷ []))
+    (left (table 8 (at 4 1 52 ∷ [])) (answer 4 40 ∷ answer 4 45 ∷ []) (0 ∷ 1 ∷ []) 2 1 0)
     -- "Add of key 9 is unfinished after 7 steps and full at the 8th; find of 9 is absent at the 8th." The amount is left open: 1 here.
-    ∷ leaves fullTable (operation 4 9 1 ∷ []) (replicate 7 0)
-    (record { cells = fullTable; answers = 0 ∷ []; log = 9 ∷ []; done = 0; lost = 0; idle = 0 })
-    ∷ leaves fullTable (operation 4 9 1 ∷ []) (replicate 8 0)
-    (record { cells = fullTable; answers = answer 7 0 ∷ []; log = 0 ∷ []; done = 1; lost = 0; idle = 0 })
-    ∷ leaves fullTable (operation 1 9 0 ∷ []) (replicate 7 0)
-    (record { cells = fullTable; answers = 0 ∷ []; log = 9 ∷ []; done = 0; lost = 0; idle = 0 })
-    ∷ leaves fullTable (operation 1 9 0 ∷ []) (replicate 8 0)
-    (record { cells = fullTable; answers = answer 6 0 ∷ []; log = 0 ∷ []; done = 1; lost = 0; idle = 0 })
+    ∷ leaves (job fullTable (operation 4 9 1 ∷ []) (replicate 7 0)) (left fullTable (answer 0 0 ∷ []) (9 ∷ []) 0 0 0)
+    ∷ leaves (job fullTable (operation 4 9 1 ∷ []) (replicate 8 0)) (left fullTable (answer 7 0 ∷ []) (0 ∷ []) 1 0 0)
+    ∷ leaves (job fullTable (operation 1 9 0 ∷ []) (replicate 7 0)) (left fullTable (answer 0 0 ∷ []) (9 ∷ []) 0 0 0)
+    ∷ leaves (job fullTable (operation 1 9 0 ∷ []) (replicate 8 0)) (left fullTable (answer 6 0 ∷ []) (0 ∷ []) 1 0 0)
     -- "Cell 7 = (8, 1), add (16, 3), three steps: cell 0 = (16, 3)."
-    ∷ leaves (table 8 (at 7 8 1 ∷ [])) (operation 4 16 3 ∷ []) (0 ∷ 0 ∷ 0 ∷ [])
-    (record {
-      cells = table 8 (at 7 8 1 ∷ at 0 16 3 ∷ []);
-      answers = answer 2 0 ∷ [];
-      log = 0 ∷ [];
-      done = 1;
-      lost = 0;
-      idle = 0;
-    })
+    ∷ leaves (job (table 8 (at 7 8 1 ∷ [])) (operation 4 16 3 ∷ []) (0 ∷ 0 ∷ 0 ∷ []))
+    (left (table 8 (at 7 8 1 ∷ at 0 16 3 ∷ [])) (answer 2 0 ∷ []) (0 ∷ []) 1 0 0)
     -- "Cell 4 empty, cell 5 = (9, 25): refused 8 at 5. Key 1 in cells 4 and 5: refused 7 at 5."
     ∷ refused (table 8 (at 5 9 25 ∷ [])) 8 5
     ∷ refused (table 8 (at 4 1 40 ∷ at 5 1 40 ∷ [])) 7 5
@@ -155,3 +133,32 @@ cases =
     ∷ refused (table 4 []) 1 0
     ∷ refused (table 12 []) 1 0
     ∷ []
+
+-- A longer run than the document's: 16 cells with a tombstone and a pinned room, ten operations that take turns eight times. Rooms 9 and 17
+-- begin at the tombstone, 55 and 42 pass the end of the table, and four swaps are lost.
+abbrev rounds : ℕ → List ℕ → List ℕ
+rounds zero l = []
+rounds (suc n) l = l ++ rounds n l
+
+unfoldable pub longer : Job
+longer =
+    job (table 16 (at 8 65535 0 ∷ at 9 1 40 ∷ at 14 16 5 ∷ at 15 8 65535 ∷ []))
+    (operation 4 1 100
+    ∷ operation 4 9 25
+    ∷ operation 4 17 7
+    ∷ operation 4 1 65500
+    ∷ operation 1 9 0
+    ∷ operation 4 8 3
+    ∷ operation 4 55 1
+    ∷ operation 1 16 0
+    ∷ operation 4 9 0
+    ∷ operation 4 42 2
+    ∷ [])
+    (rounds 8 (0 ∷ 1 ∷ 2 ∷ 3 ∷ 4 ∷ 5 ∷ 6 ∷ 7 ∷ 8 ∷ 9 ∷ []))
+
+-- all that demand 3 asks of a run
+pub record Meets (j : Job) : Type 0 where
+  pub accepted : resultOf j .outcome .number ≡ 0
+  pub only : T (onlyFindsAndAdds (map decodeOperation (j .operations)))
+  pub finished : resultOf j .outcome .done ≡ length (j .operations)
+  pub suffice : CellsSuffice (narrowSetting (length (j .cells))) (map decode (j .cells)) (map decodeOperation (j .operations))

@@ -1,130 +1,79 @@
--- Document 01, "What one step does", line by line: each of its read rules and new words, as the definitions of Step.antt compute it.
+-- Document 01, "What one step does", line by line: its read rules and new words, as the definitions of Step.antt compute them. Each line
+-- holds by `refl`, so a reader can hold the document beside this page and need not unfold the definitions.
 -- Assumes nothing.
 use mathlib.Core.Path.{_≡_, refl}
 use Prim.Native.Nat.{ℕ, suc}
-use mathlib.Core.Bool.{true, false, cond}
-use lib.Dec.{eqb}
+use mathlib.Core.Bool.{true, false}
 use Rattle.semantics.specs.Cells.{Setting, Cell, empty, tombstone, live, Kind, find, insert, update, add, remove, Operation}
 use Rattle.semantics.specs.Cells.{found, present, changed, removed, inserted, absent, full}
-use Rattle.semantics.specs.Step.{Sight, own, free, other, sight, Held, vacant, mine, passes, loses, holds, finishes, Turn}
-use Rattle.semantics.specs.Step.{effect, makes, readOwn, read, exhausted, bounded, heldCell, fateCell, newCell, swapAnswer, swapped, step, reading, holding, pending, finished, after, sameCell}
+use Rattle.semantics.specs.Step.{own, free, other, sight, Held, vacant, mine, passes, loses, holds, finishes, pending, finished, reading, holding, fresh, after}
+use Rattle.semantics.specs.Step.{makes, effect, readOwn, read, exhausted, heldCell, fateCell, newCell, swapAnswer, swapped, step}
 
-module _ (S : Setting) (k : ℕ) (amount t : S .T) where
-  abbrev of : Kind → Operation (S .T)
-  of kind = record { kind = kind; key = k; amount = amount }
+-- an operation of key k with an amount, at a cell x; t is the total of its key
+module _ (S : Setting) (k : ℕ) (amount t : S .T) (x : Cell (S .T)) where
+  abbrev row : Kind → Operation (S .T)
+  row kind = record { kind = kind; key = k; amount = amount }
+
+  -- "It begins reading at the key's home, with 0 cells passed."
+  begins : fresh {T = S .T} ≡ pending (reading 0)
+  unfolding fresh
+  begins = refl
 
   -- "1. The row's key: find finishes found with the total; insert finishes present with the total; update, add and remove hold the word."
-  find-own : read S (of find) (own t) ≡ finishes (found t)
-  unfolding read readOwn effect
-  find-own = refl
-
-  insert-own : read S (of insert) (own t) ≡ finishes (present t)
-  unfolding read readOwn effect
-  insert-own = refl
-
-  update-own : read S (of update) (own t) ≡ holds (mine t)
-  unfolding read readOwn effect
-  update-own = refl
-
-  add-own : read S (of add) (own t) ≡ holds (mine t)
-  unfolding read readOwn effect
-  add-own = refl
-
-  remove-own : read S (of remove) (own t) ≡ holds (mine t)
-  unfolding read readOwn effect
-  remove-own = refl
+  the-key : (read S (row find) (own t) ≡ finishes (found t))
+      × (read S (row insert) (own t) ≡ finishes (present t))
+      × (read S (row update) (own t) ≡ holds (mine t))
+      × (read S (row add) (own t) ≡ holds (mine t))
+      × (read S (row remove) (own t) ≡ holds (mine t))
+      × (heldCell S k (mine t) ≡ live k t)
+  unfolding read readOwn effect heldCell
+  the-key = (refl, refl, refl, refl, refl, refl)
 
   -- "2. Empty: find, update and remove finish absent; insert and add hold the empty word."
-  find-empty : read S (of find) (sight k empty) ≡ finishes absent
-  unfolding read sight makes
-  find-empty = refl
-
-  update-empty : read S (of update) (sight k empty) ≡ finishes absent
-  unfolding read sight makes
-  update-empty = refl
-
-  remove-empty : read S (of remove) (sight k empty) ≡ finishes absent
-  unfolding read sight makes
-  remove-empty = refl
-
-  insert-empty : read S (of insert) (sight k empty) ≡ holds vacant
-  unfolding read sight makes
-  insert-empty = refl
-
-  add-empty : read S (of add) (sight k empty) ≡ holds vacant
-  unfolding read sight makes
-  add-empty = refl
+  an-empty-cell : (sight {T = S .T} k empty ≡ free)
+      × (read S (row find) free ≡ finishes absent)
+      × (read S (row update) free ≡ finishes absent)
+      × (read S (row remove) free ≡ finishes absent)
+      × (read S (row insert) free ≡ holds vacant)
+      × (read S (row add) free ≡ holds vacant)
+      × (heldCell S k vacant ≡ empty)
+  unfolding sight read makes heldCell
+  an-empty-cell = (refl, refl, refl, refl, refl, refl, refl)
 
   -- "3. Another key or a tombstone: one more cell is passed."
-  tombstone-passes : (kind : Kind) → read S (of kind) (sight k tombstone) ≡ passes
-  unfolding read sight
-  tombstone-passes kind = refl
+  another : (sight {T = S .T} k tombstone ≡ other) × ((kind : Kind) → read S (row kind) other ≡ passes)
+  unfolding sight read
+  another = (refl, λ kind. refl)
 
-  -- "If c are now passed, insert and add finish full and the others finish absent."
-  full-insert : exhausted S insert ≡ full
-  unfolding exhausted makes
-  full-insert = refl
+  -- "If c are now passed, insert and add finish full and the others finish absent. Otherwise the row goes on reading at the following cell."
+  all-passed : (exhausted S insert ≡ full)
+      × (exhausted S add ≡ full)
+      × (exhausted S find ≡ absent)
+      × (exhausted S update ≡ absent)
+      × (exhausted S remove ≡ absent)
+      × ((p : ℕ) → after {T = S .T} p passes ≡ pending (reading (suc p)))
+  unfolding exhausted makes after
+  all-passed = (refl, refl, refl, refl, refl, λ p. refl)
 
-  full-add : exhausted S add ≡ full
-  unfolding exhausted makes
-  full-add = refl
+  -- "Swapping, one step after holding: if the cell still equals the held word, the new word is stored and the row finishes. Otherwise the
+  -- swap is lost, counted, and the row reads the same cell again at its following step."
+  swapping : ((p : ℕ) (h : Held (S .T)) → after p (holds h) ≡ pending (holding p h))
+      × ((o : Operation (S .T)) (h : Held (S .T)) → swapped S o h x true ≡ record { cell = newCell S o h; turn = finishes (swapAnswer S o h) })
+      × ((o : Operation (S .T)) (h : Held (S .T)) → swapped S o h x false ≡ record { cell = x; turn = loses })
+      × ((p : ℕ) → after {T = S .T} p loses ≡ pending (reading p))
+  unfolding swapped after
+  swapping = (λ p h. refl, λ o h. refl, λ o h. refl, λ p. refl)
 
-  absent-find : exhausted S find ≡ absent
-  unfolding exhausted makes
-  absent-find = refl
-
-  absent-update : exhausted S update ≡ absent
-  unfolding exhausted makes
-  absent-update = refl
-
-  absent-remove : exhausted S remove ≡ absent
-  unfolding exhausted makes
-  absent-remove = refl
-
-  -- "Otherwise the row goes on reading at the following cell."
-  goes-on : (p : ℕ) → after {T = S .T} p passes ≡ pending (reading (suc p))
-  unfolding after
-  goes-on p = refl
-
-  -- "Otherwise the swap is lost, counted, and the row reads the same cell again at its following step."
-  lost-rereads : (p : ℕ) → after {T = S .T} p loses ≡ pending (reading p)
-  unfolding after
-  lost-rereads p = refl
-
-  -- "New words: on an empty cell, the key and the amount (inserted); update, the key and the amount; add, the key and the sum; remove, the tombstone."
-  insert-word : newCell S (of insert) vacant ≡ live k amount
-  unfolding newCell
-  insert-word = refl
-
-  add-word-on-empty : newCell S (of add) vacant ≡ live k amount
-  unfolding newCell
-  add-word-on-empty = refl
-
-  inserted-answer : (kind : Kind) → swapAnswer S (of kind) vacant ≡ inserted
-  unfolding swapAnswer
-  inserted-answer kind = refl
-
-  update-word : newCell S (of update) (mine t) ≡ live k amount
-  unfolding newCell fateCell effect
-  update-word = refl
-
-  add-word : newCell S (of add) (mine t) ≡ live k (S .plus t amount)
-  unfolding newCell fateCell effect
-  add-word = refl
-
-  remove-word : newCell S (of remove) (mine t) ≡ tombstone
-  unfolding newCell fateCell effect
-  remove-word = refl
-
-  -- "Update and add finish changed with the old total, remove finishes removed with it."
-  update-answer : swapAnswer S (of update) (mine t) ≡ changed t
-  unfolding swapAnswer effect
-  update-answer = refl
-
-  add-answer : swapAnswer S (of add) (mine t) ≡ changed t
-  unfolding swapAnswer effect
-  add-answer = refl
-
-  remove-answer : swapAnswer S (of remove) (mine t) ≡ removed t
-  unfolding swapAnswer effect
-  remove-answer = refl
+  -- "New words: on an empty cell, the key and the amount (inserted); update, the key and the amount; add, the key and the sum; remove, the
+  -- tombstone. Update and add finish changed with the old total, remove finishes removed with it."
+  new-words : (newCell S (row insert) vacant ≡ live k amount)
+      × (newCell S (row add) vacant ≡ live k amount)
+      × ((kind : Kind) → swapAnswer S (row kind) vacant ≡ inserted)
+      × (newCell S (row update) (mine t) ≡ live k amount)
+      × (newCell S (row add) (mine t) ≡ live k (S .plus t amount))
+      × (newCell S (row remove) (mine t) ≡ tombstone)
+      × (swapAnswer S (row update) (mine t) ≡ changed t)
+      × (swapAnswer S (row add) (mine t) ≡ changed t)
+      × (swapAnswer S (row remove) (mine t) ≡ removed t)
+  unfolding newCell swapAnswer fateCell effect
+  new-words = (refl, refl, λ kind. refl, refl, refl, refl, refl, refl, refl)

@@ -1,3 +1,2 @@
 pub mod Packed
 pub mod Powers
-pub mod Allowed

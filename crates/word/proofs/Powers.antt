@@ -1,14 +1,14 @@
 -- Powers of two, told by the ones and the trailing zeros of a number.
 -- Assumes nothing.
 use mathlib.Core.Path.{_≡_, refl, sym}
-use mathlib.Core.Bool.{Bool, true, false, _||_, false≢true}
+use mathlib.Core.Bool.{true, false, _||_}
 use Prim.Native.Nat.{ℕ, zero, suc, _+_, _*_, _/_, _%_, _^_, _<_, zero-le}
 use native.Mathlib.Nat.{add-zero, add-suc, suc-add, pow-suc}
 use native.Mathlib.Omega.{arith}
 use lib.Dec.{eqb, ltb, leb·suc-suc}
 use lib.Pow.{pow-pos, pow-lt}
 use lib.Count.{ones, trailingZeros, under, ones-step, ones-cat, ones-le}
-use borrow.Author.Tests.{eq-eqb, ne-eqb, eqb-true, lt-ltb, le-ltb}
+use borrow.Author.Tests.{eq-eqb, ne-eqb, lt-ltb, le-ltb}
 use Rattle.semantics.specs.Words.{isPowerFrom}
 
 -- a power has one bit set
@@ -41,14 +41,3 @@ at-power k (suc n) zero = rw (add-zero k, eq-eqb (2 ^ k) (2 ^ k) refl) (sym (lt-
 at-power k (suc n) (suc d) =
     let above : 2 ^ k < 2 ^ (k + suc d) = pow-lt (omega arith) in
     rw (ne-eqb (2 ^ (k + suc d)) (2 ^ k) (λ q. omega arith), add-suc k d, ← suc-add k d, at-power (suc k) n d, leb·suc-suc (suc d) n)
-
--- and nothing else passes
-pub power-of : (k n c : ℕ) → isPowerFrom k n c ≡ true → (d : ℕ) × (d < n) × (c ≡ 2 ^ (k + d))
-unfolding isPowerFrom
-power-of k zero c e = absurd (false≢true e)
-power-of k (suc n) c e = go (power-of (suc k) n c) (eqb c (2 ^ k)) refl e
-  where
-    go : (isPowerFrom (suc k) n c ≡ true → (d : ℕ) × (d < n) × (c ≡ 2 ^ (suc k + d))) → (b : Bool) → eqb c (2 ^ k) ≡ b
-        → (b || isPowerFrom (suc k) n c) ≡ true → (d : ℕ) × (d < suc n) × (c ≡ 2 ^ (k + d))
-    go rest true q e = (0, omega arith, rw add-zero (eqb-true c (2 ^ k) q))
-    go rest false q e = let r = rest e in (suc (r .0), omega arith, rw (add-suc, ← suc-add) (r .2))

@@ -7,7 +7,9 @@ use native.Mathlib.Omega.{arith}
 use lib.Count.{ones, trailingZeros}
 use lib.Pow.{pow-lt}
 use Rattle.semantics.specs.Words.{isPowerFrom}
-use Rattle.word.proofs.Powers.{ones-pow, one-bit, at-power, power-of}
+use Rattle.semantics.proofs.Tests.{true-T}
+use Rattle.semantics.proofs.Narrow.{power}
+use Rattle.word.proofs.Powers.{ones-pow, one-bit, at-power}
 use Rattle.word.proofs.is_power_from.Statement.{statement}
 use Rattle.word.proofs.is_power_from.Tie as tie
 
@@ -23,12 +25,12 @@ returns-2 : tie.Need-returns-2
 returns-2 c =
     let a = c .before .before .args in
     sym (not-eq-not .0 (λ e.
-    let p = power-of (a .low) (a .n) (a .c) e in
-    let less : 2 ^ trailingZeros 32 (a .c) < 2 ^ (a .low + p .0) = pow-lt (omega arith) in
-    omega (arith, one-bit 32 (a .c) (c .before .before .fits .c .fits) (c .before .if1 .taken), p .2)))
+    let p = power (a .low) (a .n) (a .c) (true-T _ e) in
+    let less : 2 ^ trailingZeros 32 (a .c) < 2 ^ p .exponent = pow-lt (omega arith) in
+    omega (arith, one-bit 32 (a .c) (c .before .before .fits .c .fits) (c .before .if1 .taken), p .is)))
 
 returns-3 : tie.Need-returns-3
-returns-3 c = sym (not-eq-not .0 (λ e. c .if1 .left (let p = power-of _ _ _ e in ap ones (p .2) ∙ ones-pow _)))
+returns-3 c = sym (not-eq-not .0 (λ e. c .if1 .left (let p = power _ _ _ (true-T _ e) in ap ones (p .is) ∙ ones-pow _)))
 
 pub is-power-from-spec : {M : Type 1} → statement M
 is-power-from-spec = tie.close (tie.spec returns returns-2 returns-3)

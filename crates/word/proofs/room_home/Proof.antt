@@ -6,7 +6,9 @@ use native.Mathlib.Nat.{le-div-iff-mul-le}
 use native.Mathlib.Omega.{arith}
 use borrow.Author.Needs.{needs}
 use Rattle.semantics.specs.Words.{isLiveKey, sizeAllowed, homeIn, roomHome}
-use Rattle.word.proofs.Allowed.{live-below, size-between}
+use Rattle.semantics.proofs.Tests.{true-T}
+use Rattle.semantics.proofs.Narrow.{allowed-bounds}
+use Rattle.semantics.proofs.Words.{live-bounds}
 use Rattle.word.proofs.room_home.Statement.{statement}
 use Rattle.word.proofs.room_home.Tie as tie
 
@@ -23,13 +25,13 @@ is-live-requires : tie.Need-is-live-requires
 is-live-requires c κs = search needs
 
 mul-result : tie.Need-mul-result
-mul-result c = omega (arith, live-below _ (live c))
+mul-result c = omega (arith, live-bounds _ (true-T _ (live c)))
 
 div-result : tie.Need-div-result
-div-result c = omega (arith, size-between _ (sized c))
+div-result c = omega (arith, allowed-bounds _ (true-T _ (sized c)))
 
 div-result-2 : tie.Need-div-result-2
-div-result-2 c = le-div-iff-mul-le (div-result c) .1 (omega (arith, size-between _ (sized c)))
+div-result-2 c = le-div-iff-mul-le (div-result c) .1 (omega (arith, allowed-bounds _ (true-T _ (sized c))))
 
 returns : tie.Need-returns
 unfolding roomHome homeIn
