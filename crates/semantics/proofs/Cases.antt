@@ -1,7 +1,10 @@
--- The starred cases of document 01 hold, and what demand 3 asks can be met: each by computation.
+-- The starred cases of document 01 hold, and what demand 3 asks can be met: each by computation. Where it is met, demand 3 speaks.
 -- Assumes nothing.
-use mathlib.Core.Path.{refl}
+use mathlib.Core.Path.{_≡_, refl}
+use Prim.Native.Nat.{ℕ}
+use mathlib.Core.List.{List, map}
 use lib.Dec.{T, lit≤}
+use lib.ListN.{length, replicate}
 use Rattle.semantics.specs.Totals as Totals
 use Rattle.semantics.specs.Cells as Cells
 use Rattle.semantics.specs.Words as Words
@@ -9,7 +12,8 @@ use Rattle.semantics.specs.Step as Step
 use Rattle.semantics.specs.TotalsRule as TotalsRule
 use Rattle.semantics.specs.Refusals as Refusals
 use Rattle.semantics.specs.Run as Run
-use Rattle.semantics.specs.Cases.{resultOf, holds, allHold, leftBy, sameList, cases, inFull, longer, Meets}
+use Rattle.semantics.proofs.WordsHold.{totals-words}
+use Rattle.semantics.specs.Cases.{Job, resultOf, holds, allHold, leftBy, sameList, cases, inFull, longer, Meets}
 
 -- every definition that a run computes with: to unfold `computed` is to unfold them all
 unfoldable pub computed : Unit {0}
@@ -26,3 +30,10 @@ met = (
   record { accepted = refl; only = tt; finished = refl; suffice = lit≤ tt },
   record { accepted = refl; only = tt; finished = refl; suffice = lit≤ tt },
 )
+
+pub speaks : (j : Job) → Meets j → (k : ℕ)
+    → Run.roomTotal k (resultOf j .cells) ≡ Run.heldSum (Run.roomTotal k (j .cells)) (TotalsRule.amountsAdded k (map Words.decodeOperation (j .operations)))
+unfolding resultOf Run.TotalsWords
+speaks j h =
+    let slice : List ℕ = replicate (length (j .operations)) 9 in
+    totals-words (j .cells) (j .operations) (j .schedule) slice slice (h .accepted) (h .only) (h .finished) (h .suffice)

@@ -1,21 +1,21 @@
 -- Demand 2: any run of accepted cells, after any number of entries, is the one-at-a-time map doing the logged operations in log order.
 -- Assumes nothing.
 use mathlib.Core.Path.{_≡_, refl, ap, ap₂, sym, _∙_, subst, subst₃}
-use Prim.Native.Nat.{ℕ, zero, suc, _+_, _<_}
+use Prim.Native.Nat.{ℕ, zero, suc, _<_}
 use mathlib.Core.Bool.{Bool, true, false, cond, true≢false}
 use mathlib.Core.List.{List, [], _∷_, _++_, map}
 use mathlib.Core.Option.{Option, none, some}
 use native.Mathlib.Omega.{arith}
 use native.Mathlib.Decide.{ℕ-discrete}
 use native.Mathlib.Nat.{not-suc-le-zero}
-use borrow.Author.Tests.{eqb-true, eqb-false, eq-eqb, ne-eqb}
+use borrow.Author.Tests.{eqb-true, eqb-false}
 use lib.Dec.{eqb}
 use lib.ListN.{length, getD, set, getElem?, length-append}
 use lib.Seq.{set-getD}
-use Rattle.semantics.specs.Cells.{Setting, Cell, empty, Operation, Answer, keyed, lookup, usedCells}
-use Rattle.semantics.specs.Step.{Turn, finishes, Pending, reading, holding, State, pending, finished, Row, Machine, Stepped, fresh, after, logged, countLost, idled, foldl, answered, answerIn, isSome, finishedIn, doneCount}
+use Rattle.semantics.specs.Cells.{Setting, Cell, empty, Operation, Answer}
+use Rattle.semantics.specs.Step.{Turn, Pending, reading, holding, State, pending, finished, Row, Machine, Stepped, fresh, after, logged, idled, foldl, answered, answerIn, isSome, finishedIn, doneCount}
 use Rattle.semantics.specs.Step.{step, passed, placeOf, taken, entry, freshRow, begin, run}
-use Rattle.semantics.specs.Map.{Map, Done, Replay, mapOf, occurs, performed, noted, replayOne, replay, Linearizable}
+use Rattle.semantics.specs.Map.{Replay, mapOf, occurs, performed, noted, replayOne, replay, Linearizable}
 use Rattle.semantics.proofs.Laws.{Lawful, Accepted}
 use Rattle.semantics.proofs.Lists.{none-some, elem-set-same, elem-set-other, elem-set-all, elem-map, elem-map-all, map-set-elem, map-snoc, foldl-snoc, occurs-snoc, map-on}
 use Rattle.semantics.proofs.Table.{Agrees, Probed, own-place, located-lookup, size-pos, start-agrees}

@@ -9,7 +9,6 @@ use native.Mathlib.Omega.{arith}
 use lib.Dec.{T, eqb, leb, eqb→eq, eqb-refl}
 use lib.Pow.{pow-add, pow-pos, pow-mono, shr-lt}
 use Rattle.semantics.specs.Totals.{Total, heldAt, plusAt, amounts, anyPinned, sumAt, sameTotal, narrow, narrowCeiling}
-use Rattle.semantics.specs.Cells.{Setting}
 use Rattle.semantics.specs.Words.{isPowerFrom, sizeAllowed, homeIn, narrowSetting, roomSum}
 use Rattle.semantics.proofs.Laws.{Lawful}
 use Rattle.semantics.proofs.Tests.{compared, same-test, beq-refl, beq-sound, absorbs, join, both, either, left, right}

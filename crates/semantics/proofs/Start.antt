@@ -1,7 +1,7 @@
 -- No refusal gives what the theorems ask: what follows from each condition of the run's table that is not met, and from all of them that the
 -- starting cells are as Laws.antt says and that cells and operations can be packed.
 -- Assumes nothing.
-use mathlib.Core.Path.{_≡_, refl, ap, sym, subst, _∙_}
+use mathlib.Core.Path.{_≡_, refl, sym, subst, _∙_}
 use Prim.Native.Nat.{ℕ, zero, suc, _+_, _-_, _%_, _≤_, _<_, suc-le-suc}
 use mathlib.Core.Bool.{Bool, true, false, cond}
 use mathlib.Core.List.{List, [], _∷_, map}

@@ -2,9 +2,9 @@
 -- that the map gives now, and leaves cells that agree with the map's next state.
 -- Assumes nothing.
 use mathlib.Core.Path.{_≡_, refl, ap, sym, _∙_, subst}
-use Prim.Native.Nat.{ℕ, zero, suc, _≤_, _<_}
+use Prim.Native.Nat.{ℕ, suc, _<_}
 use mathlib.Core.Bool.{Bool, true, false, cond, true≢false}
-use mathlib.Core.List.{List, [], _∷_}
+use mathlib.Core.List.{List}
 use mathlib.Core.Option.{Option, none, some}
 use native.Mathlib.Omega.{arith}
 use native.Mathlib.Decide.{decLt}
@@ -14,14 +14,14 @@ use lib.ListN.{length, getD, set}
 use lib.Seq.{set-getD}
 use Rattle.semantics.specs.Cells.{Setting, Cell, empty, tombstone, live, Kind, find, insert, update, add, remove, Operation, Answer, absent, full, inserted}
 use Rattle.semantics.specs.Cells.{keyed, isEmpty, usedCells}
-use Rattle.semantics.specs.Step.{Sight, own, free, other, sight, Held, vacant, mine, Turn, passes, loses, holds, finishes, Pending, reading, holding, State, pending, finished}
-use Rattle.semantics.specs.Step.{Fate, stays, ends, becomes, Effect, Stepped, makes, after, logged, effect, readOwn, read, exhausted, bounded}
+use Rattle.semantics.specs.Step.{Sight, own, free, other, sight, Held, vacant, mine, passes, holds, finishes, Pending, reading, holding, pending}
+use Rattle.semantics.specs.Step.{Fate, stays, ends, becomes, Stepped, makes, after, logged, effect, readOwn, read, exhausted, bounded}
 use Rattle.semantics.specs.Step.{heldCell, fateCell, newCell, swapAnswer, sameCell, swapped, step, passed, placeOf}
 use Rattle.semantics.specs.Map.{Map, Done, withPair, unchanged, replaced, stored, perform, performed}
 use Rattle.semantics.proofs.Laws.{Lawful}
 use Rattle.semantics.proofs.Lists.{none-some}
 use Rattle.semantics.proofs.Tests.{true-T, same-cell-sound}
-use Rattle.semantics.proofs.Table.{keyed-live, keyed-other, Follows, used-fill, used-keep, used-below, Located, lacks, has, Agrees, Probed}
+use Rattle.semantics.proofs.Table.{keyed-live, keyed-other, Follows, used-fill, used-keep, used-below, Located, Agrees, Probed}
 use Rattle.semantics.proofs.Table.{own-pair, own-alone, missing-alone, free-lacks, passed-lacks, place-below, all-used, probed-set, has-set, lacks-set, agrees-set}
 
 -- what an operation of key k sees in a cell, and what it then knows of the cell

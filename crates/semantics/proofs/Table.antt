@@ -1,7 +1,6 @@
 -- How cells agree with a map, and what a store of one cell does to that.
 -- Assumes nothing.
 use mathlib.Core.Path.{_≡_, refl, ap, ap₂, sym, _∙_, subst}
-use mathlib.Core.Logic.{⊎-elim}
 use Prim.Native.Nat.{ℕ, zero, suc, _+_, _-_, _%_, _≤_, _<_}
 use mathlib.Core.Bool.{Bool, true, false, cond, true≢false}
 use mathlib.Core.List.{List, [], _∷_}
@@ -12,8 +11,8 @@ use native.Mathlib.Decide.{ℕ-discrete, decLt}
 use borrow.Author.Tests.{eqb-true, eqb-false, eq-eqb, ne-eqb}
 use lib.Dec.{eqb}
 use lib.ListN.{length, getD, set, length-set}
-use lib.Seq.{getD-set-same, getD-set-other, set-getD}
-use Rattle.semantics.specs.Cells.{Setting, Cell, empty, tombstone, live, keyed, isEmpty, usedCells, lookup, orElse}
+use lib.Seq.{getD-set-same, getD-set-other}
+use Rattle.semantics.specs.Cells.{Setting, Cell, empty, live, keyed, isEmpty, usedCells, lookup, orElse}
 use Rattle.semantics.specs.Step.{placeOf}
 use Rattle.semantics.specs.Map.{Map, withPair, mapOf}
 use Rattle.semantics.proofs.Laws.{Lawful, Accepted}

@@ -2,17 +2,17 @@
 -- It follows from demand 2: the log names each operation once, the sum does not depend on the order, and no add finds the table full.
 -- Assumes nothing.
 use mathlib.Core.Path.{_≡_, refl, ap, ap₂, sym, _∙_, subst}
-use Prim.Native.Nat.{ℕ, zero, suc, _+_, _≤_, _<_}
+use Prim.Native.Nat.{ℕ, zero, suc, _+_, _≤_}
 use mathlib.Core.Bool.{Bool, true, false, cond, _&&_, _||_, not, and-false, or-true}
 use mathlib.Core.List.{List, [], _∷_, map}
 use mathlib.Core.Option.{Option, none, some}
 use native.Mathlib.Omega.{arith}
 use native.Mathlib.Nat.{suc-inj}
 use native.Mathlib.Decide.{ℕ-discrete}
-use borrow.Author.Tests.{eqb-true, eqb-false, eq-eqb, ne-eqb}
+use borrow.Author.Tests.{eqb-true, eq-eqb, ne-eqb}
 use lib.Dec.{T as Holds, eqb}
 use lib.ListN.{length, getElem?, length-map}
-use Rattle.semantics.specs.Cells.{Setting, Cell, Kind, find, insert, update, add, remove, Operation, lookup, usedCells, absent, found, full, inserted, changed}
+use Rattle.semantics.specs.Cells.{Setting, Cell, Kind, find, insert, update, add, remove, Operation, lookup}
 use Rattle.semantics.specs.Step.{Row, Machine, foldl, isSome, answered, answerIn, finishedIn, doneCount, run}
 use Rattle.semantics.specs.Map.{Map, Done, Replay, withPair, unchanged, replaced, mapOf, occurs, stored, perform, performed, noted, replayOne, replay, Linearizable}
 use Rattle.semantics.specs.TotalsRule.{isAdd, isFindOrAdd, onlyFindsAndAdds, isPresent, addsTo, isAdded, amountsAdded, countsAt, roomsToMake}

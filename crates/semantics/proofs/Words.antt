@@ -11,7 +11,7 @@ use lib.Dec.{T, eqb, ltb, eqb→eq, ltb→lt}
 use borrow.Author.Tests.{eqb-true, ne-eqb}
 use lib.ListN.{length, getD}
 use Rattle.semantics.specs.Totals.{Total, plusAt, narrow, narrowCeiling}
-use Rattle.semantics.specs.Cells.{Setting, Cell, empty, tombstone, live, Kind, find, insert, update, add, remove, Operation, keyed, isEmpty}
+use Rattle.semantics.specs.Cells.{Cell, empty, tombstone, live, Kind, find, insert, update, add, remove, Operation, keyed, isEmpty}
 use Rattle.semantics.specs.Step.{Held, vacant, mine, effect, heldCell, fateCell, newCell, sameCell}
 use Rattle.semantics.specs.Words.{isLiveKey, keyOf, totalBits, tombstoneWord, cellAllowed, decode, encode, narrowSetting}
 use Rattle.semantics.specs.Words.{kindBits, operationKey, amountBits, kindOf, kindNumber, isKind, takesAmount, operationAllowed, decodeOperation, encodeOperation, bitsAboveKind}

@@ -1,27 +1,25 @@
 -- Demands 2 and 3 on words: of every call that the run accepts, with no assumption left.
 -- Assumes nothing.
-use mathlib.Core.Path.{_≡_, refl, ap, ap₂, sym, subst, _∙_}
+use mathlib.Core.Path.{_≡_, refl, ap, sym, subst, _∙_}
 use Prim.Native.Nat.{ℕ, zero, suc, _+_, _≤_, _<_, min, suc-le-suc}
 use mathlib.Core.Bool.{Bool, true, false, cond, true≢false}
 use mathlib.Core.List.{List, [], _∷_, _++_, map}
 use mathlib.Core.Option.{Option, none, some}
 use native.Mathlib.Omega.{arith}
-use native.Mathlib.Decide.{decLt}
 use lib.Dec.{T, eqb}
 use borrow.Author.Tests.{eqb-true, eqb-false}
-use lib.ListN.{length, getD, set, getElem?, take, drop, length-map, List·getD-append, List·getD-map}
+use lib.ListN.{length, getD, getElem?, take, drop, length-map, List·getD-append, List·getD-map}
 use lib.Seq.{take-at}
 use Rattle.semantics.specs.Totals.{Total, amounts, narrow, narrowCeiling, sumAt, heldAt}
 use Rattle.semantics.specs.Cells.{Setting, Cell, empty, Operation, Answer, keyed, lookup, usedCells}
-use Rattle.semantics.specs.Step.{doneCount, Held, Pending, reading, holding, State, pending, finished, Row, Machine, Stepped, after, answered, answerIn, isSome, finishedIn, idled, foldl}
-use Rattle.semantics.specs.Step.{heldCell, newCell, sameCell, swapped, step, passed, placeOf, taken, act, entered, entry, freshRow, begin, run}
-use Rattle.semantics.specs.Map.{occurs, replay, Linearizable}
+use Rattle.semantics.specs.Step.{doneCount, Pending, reading, holding, pending, Row, Machine, answerIn, isSome, finishedIn, idled}
+use Rattle.semantics.specs.Step.{heldCell, sameCell, swapped, step, passed, placeOf, taken, entry, freshRow, begin, run}
+use Rattle.semantics.specs.Map.{occurs, Linearizable}
 use Rattle.semantics.specs.TotalsRule.{TotalsRule, EveryOperationFinishes, amountsAdded, addsTo, expectedFrom, expected}
 use Rattle.semantics.specs.Words.{decode, encode, decodeOperation, answerWord, narrowSetting, isLiveKey, keyOf, totalBits}
 use Rattle.semantics.specs.Refusals.{Call, runRefusal}
 use Rattle.semantics.specs.Run.{Result, over, machine, answerOf, outcomeOf, acceptedResult, refusedResult, callOf, resultIf, runResult, amountIn, roomTotal, replayWords, LinearizableWords, heldSum, TotalsWords}
-use Rattle.semantics.proofs.Laws.{Lawful, Accepted}
-use Rattle.semantics.proofs.Lists.{none-some, elem-set-all, elem-map-all, foldl-snoc, map-on, map-map, set-everywhere}
+use Rattle.semantics.proofs.Lists.{elem-set-all, elem-map-all, foldl-snoc, map-on, map-map, set-everywhere}
 use Rattle.semantics.proofs.Tests.{true-T, passed as affirm, same-cell-sound}
 use Rattle.semantics.proofs.Table.{keyed-live, Looked, nowhere, somewhere, looked}
 use Rattle.semantics.proofs.Entries.{by-entry, by-run}

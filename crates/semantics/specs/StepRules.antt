@@ -6,8 +6,8 @@ use Prim.Native.Nat.{ℕ, suc}
 use mathlib.Core.Bool.{true, false}
 use Rattle.semantics.specs.Cells.{Setting, Cell, empty, tombstone, live, Kind, find, insert, update, add, remove, Operation}
 use Rattle.semantics.specs.Cells.{found, present, changed, removed, inserted, absent, full}
-use Rattle.semantics.specs.Step.{own, free, other, sight, Held, vacant, mine, passes, loses, holds, finishes, pending, finished, reading, holding, fresh, after}
-use Rattle.semantics.specs.Step.{makes, effect, readOwn, read, exhausted, heldCell, fateCell, newCell, swapAnswer, swapped, step}
+use Rattle.semantics.specs.Step.{own, free, other, sight, Held, vacant, mine, passes, loses, holds, finishes, pending, reading, holding, fresh, after}
+use Rattle.semantics.specs.Step.{makes, effect, readOwn, read, exhausted, heldCell, fateCell, newCell, swapAnswer, swapped}
 
 -- an operation of key k with an amount, at a cell x; t is the total of its key
 module _ (S : Setting) (k : ℕ) (amount t : S .T) (x : Cell (S .T)) where

@@ -1,7 +1,7 @@
 -- Document 01, "Cells, rows, schedule": totals, under any ceiling.
 -- Assumes nothing.
 use Prim.Native.Nat.{ℕ, _+_, min}
-use mathlib.Core.Bool.{Bool, true, false, _||_, _&&_, Bool·beq}
+use mathlib.Core.Bool.{Bool, false, _||_, _&&_, Bool·beq}
 use mathlib.Core.List.{List, [], _∷_}
 use lib.Dec.{leb, eqb}
 

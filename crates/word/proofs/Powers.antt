@@ -1,11 +1,10 @@
 -- Powers of two, told by the ones and the trailing zeros of a number.
 -- Assumes nothing.
 use mathlib.Core.Path.{_≡_, refl, sym}
-use mathlib.Core.Bool.{true, false, _||_}
 use Prim.Native.Nat.{ℕ, zero, suc, _+_, _*_, _/_, _%_, _^_, _<_, zero-le}
 use native.Mathlib.Nat.{add-zero, add-suc, suc-add, pow-suc}
 use native.Mathlib.Omega.{arith}
-use lib.Dec.{eqb, ltb, leb·suc-suc}
+use lib.Dec.{ltb, leb·suc-suc}
 use lib.Pow.{pow-pos, pow-lt}
 use lib.Count.{ones, trailingZeros, under, ones-step, ones-cat, ones-le}
 use borrow.Author.Tests.{eq-eqb, ne-eqb, lt-ltb, le-ltb}
