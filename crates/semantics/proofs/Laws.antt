@@ -13,17 +13,17 @@ use Rattle.semantics.specs.Step.{placeOf}
 
 -- totals are added in any order, are the same where the test says so, and are summed one by one; each home is a cell
 pub record Lawful (S : Setting) : Type 0 where
-  pub same-refl : (t : S .T) → T (S .same t t)
-  pub same-sound : (t u : S .T) → T (S .same t u) → t ≡ u
-  pub plus-comm : (t u : S .T) → S .plus t u ≡ S .plus u t
-  pub plus-assoc : (t u v : S .T) → S .plus (S .plus t u) v ≡ S .plus t (S .plus u v)
-  pub sum-none : (t : S .T) → S .sum t [] ≡ t
-  pub sum-more : (t a : S .T) (more : List (S .T)) → S .sum t (a ∷ more) ≡ S .sum (S .plus t a) more
+  pub same-refl : (t : S .Total) → T (S .same t t)
+  pub same-sound : (t u : S .Total) → T (S .same t u) → t ≡ u
+  pub plus-comm : (t u : S .Total) → S .plus t u ≡ S .plus u t
+  pub plus-assoc : (t u v : S .Total) → S .plus (S .plus t u) v ≡ S .plus t (S .plus u v)
+  pub sum-none : (t : S .Total) → S .sum t [] ≡ t
+  pub sum-more : (t a : S .Total) (more : List (S .Total)) → S .sum t (a ∷ more) ≡ S .sum (S .plus t a) more
   pub home-below : (k : ℕ) → S .home k < S .size
 
 -- the cells are c, no key has two of them, and none is empty from a key's home up to the key's cell
-pub record Accepted (S : Setting) (cells : List (Cell (S .T))) : Type 0 where
+pub record Accepted (S : Setting) (cells : List (Cell (S .Total))) : Type 0 where
   pub long : length cells ≡ S .size
-  pub distinct : (k i j : ℕ) (t u : S .T) → keyed k (getD cells i empty) ≡ some t → keyed k (getD cells j empty) ≡ some u → i ≡ j
-  pub reached : (k i : ℕ) (t : S .T) → keyed k (getD cells i empty) ≡ some t
+  pub distinct : (k i j : ℕ) (t u : S .Total) → keyed k (getD cells i empty) ≡ some t → keyed k (getD cells j empty) ≡ some u → i ≡ j
+  pub reached : (k i : ℕ) (t : S .Total) → keyed k (getD cells i empty) ≡ some t
       → (d : ℕ) × (d < S .size) × (placeOf S k d ≡ i) × ((e : ℕ) → e < d → isEmpty (getD cells (placeOf S k e) empty) ≡ false)

@@ -9,8 +9,7 @@ use native.Mathlib.Omega.{arith}
 use borrow.Author.Tests.{eq-eqb}
 use lib.Dec.{eqb}
 use lib.ListN.{getD, set, getElem?}
-use Rattle.semantics.specs.Step.{foldl}
-use Rattle.semantics.specs.Map.{occurs}
+use Rattle.semantics.specs.Basics.{foldl, occurs}
 
 pub none-some : {A : Type 0} {a : A} → none ≡ some a → ⊥
 none-some e = let z : _≡_ {A = ℕ} 0 1 = cc in omega arith
@@ -43,7 +42,8 @@ module _ {A B : Type 0} (f : A → B) where
   elem-map (x ∷ l) zero {a} e = let h : x ≡ a = cc in ap (λ (y : A). some (f y)) h
   elem-map (x ∷ l) (suc i) e = elem-map l i e
 
-  pub elem-map-all : (P : B → Type 0) (l : List A) → ((i : ℕ) (a : A) → getElem? l i ≡ some a → P (f a)) → (i : ℕ) (b : B) → getElem? (map f l) i ≡ some b → P b
+  pub elem-map-all : (P : B → Type 0) (l : List A) → ((i : ℕ) (a : A) → getElem? l i ≡ some a → P (f a)) → (i : ℕ) (b : B)
+      → getElem? (map f l) i ≡ some b → P b
   elem-map-all P [] h i b e = absurd (none-some e)
   elem-map-all P (x ∷ l) h zero b e = let q : f x ≡ b = cc in subst P q (h 0 x refl)
   elem-map-all P (x ∷ l) h (suc i) b e = elem-map-all P l (λ n. h (suc n)) i b e
@@ -90,7 +90,8 @@ map-on {B} f g (x ∷ l) h = ap₂ (λ (b : B) (r : List B). b ∷ r) (h x (rw (
     later i false p = p
 
 -- what holds of the default and of a stored element holds everywhere after the store, where it held everywhere before
-pub set-everywhere : {A : Type 0} (P : A → Type 0) (d : A) (l : List A) (j : ℕ) (a : A) → P a → ((i : ℕ) → P (getD l i d)) → (i : ℕ) → P (getD (set l j a) i d)
+pub set-everywhere : {A : Type 0} (P : A → Type 0) (d : A) (l : List A) (j : ℕ) (a : A) → P a → ((i : ℕ) → P (getD l i d)) → (i : ℕ)
+    → P (getD (set l j a) i d)
 set-everywhere P d [] j a p h i = h i
 set-everywhere P d (x ∷ l) zero a p h zero = p
 set-everywhere P d (x ∷ l) zero a p h (suc i) = h (suc i)

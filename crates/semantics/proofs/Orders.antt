@@ -10,8 +10,7 @@ use native.Mathlib.Nat.{suc-inj}
 use borrow.Author.Tests.{eqb-true, eq-eqb}
 use lib.Dec.{eqb, eqb·suc-suc, eqb·zero-suc, eqb·suc-zero}
 use lib.ListN.{length, getElem?}
-use Rattle.semantics.specs.Step.{foldl, isSome}
-use Rattle.semantics.specs.Map.{occurs}
+use Rattle.semantics.specs.Basics.{foldl, isSome, occurs}
 use Rattle.semantics.proofs.Lists.{cond-swap}
 
 -- a list without the first x in it
@@ -92,7 +91,8 @@ fold-later f b [] = refl
 fold-later f b (x ∷ l) = fold-later f (f b (suc x)) l
 
 -- a fold over the indices of a list is the fold over the list
-pub fold-indices : {A B : Type 0} (g : B → Option A → B) (b : B) (l : List A) → foldl (λ c i. g c (getElem? l i)) b (indices (length l)) ≡ foldl (λ c a. g c (some a)) b l
+pub fold-indices : {A B : Type 0} (g : B → Option A → B) (b : B) (l : List A)
+    → foldl (λ c i. g c (getElem? l i)) b (indices (length l)) ≡ foldl (λ c a. g c (some a)) b l
 unfolding foldl indices
 fold-indices g b [] = refl
 fold-indices g b (a ∷ l) = fold-later (λ c i. g c (getElem? (a ∷ l) i)) (g b (some a)) (indices (length l)) ∙ fold-indices g (g b (some a)) l

@@ -12,11 +12,12 @@ use native.Mathlib.Omega.{arith}
 use lib.Dec.{T, eqb, ltb}
 use lib.ListN.{length, getD, getElem?, length-map, List·getD-map, List·getD-eq-default}
 use borrow.Author.Tests.{ltb-false, leb-false, eqb-false}
+use Rattle.semantics.specs.Basics.{firstBelow, firstFrom, someBelow}
 use Rattle.semantics.specs.Totals.{Total}
 use Rattle.semantics.specs.Cells.{Cell, Operation, empty, keyed, isEmpty}
 use Rattle.semantics.specs.Step.{placeOf}
 use Rattle.semantics.specs.Words.{sizeAllowed, homeIn, isLiveKey, keyOf, cellAllowed, operationAllowed, decode, decodeOperation, narrowSetting}
-use Rattle.semantics.specs.Refusals.{firstFrom, firstBelow, someBelow, Condition, firstMet, atFirst, Call, mostOperations, mostEntries, isRepeated, isUnreachable}
+use Rattle.semantics.specs.Refusals.{Condition, firstMet, atFirst, Call, mostOperations, mostEntries, isRepeated, isUnreachable}
 use Rattle.semantics.specs.Refusals.{sizeNotAllowed, tooMany, tooShort, badCell, badOperation, badEntry, repeatedKey, unreachableKey, runConditions, runRefusal}
 use Rattle.semantics.proofs.Laws.{Accepted}
 use Rattle.semantics.proofs.Lists.{none-some}

@@ -55,12 +55,12 @@ follows-own k t y h f =
 
 module _ (S : Setting) (L : Lawful S) where
   -- the tie between the step's rules and the map's own arms: on a present key, and on a missing one
-  by-fate : ℕ → Map (S .T) → Answer (S .T) → Fate (S .T) → Done (S .T)
+  by-fate : ℕ → Map (S .Total) → Answer (S .Total) → Fate (S .Total) → Done (S .Total)
   by-fate k m a stays = unchanged m a
   by-fate k m a ends = replaced k none m a
   by-fate k m a (becomes u) = replaced k (some u) m a
 
-  perform-some : (kind : Kind) (k : ℕ) (a : S .T) (m : Map (S .T)) (t : S .T)
+  perform-some : (kind : Kind) (k : ℕ) (a : S .Total) (m : Map (S .Total)) (t : S .Total)
       → perform S kind k a m (some t) ≡ by-fate k m (effect S kind t a .answer) (effect S kind t a .fate)
   unfolding perform effect by-fate
   perform-some find k a m t = refl
@@ -69,7 +69,8 @@ module _ (S : Setting) (L : Lawful S) where
   perform-some add k a m t = refl
   perform-some remove k a m t = refl
 
-  perform-none : (kind : Kind) (k : ℕ) (a : S .T) (m : Map (S .T)) → perform S kind k a m none ≡ cond (makes kind) (stored S k a m) (unchanged m absent)
+  perform-none : (kind : Kind) (k : ℕ) (a : S .Total) (m : Map (S .Total))
+      → perform S kind k a m none ≡ cond (makes kind) (stored S k a m) (unchanged m absent)
   unfolding perform makes
   perform-none find k a m = refl
   perform-none insert k a m = refl
@@ -78,24 +79,25 @@ module _ (S : Setting) (L : Lawful S) where
   perform-none remove k a m = refl
 
   -- what is known of an unfinished operation: it has passed only cells of others, and holds the empty word only if its kind makes keys
-  unfoldable pub HoldsFor : Operation (S .T) → Held (S .T) → Type 0
+  unfoldable pub HoldsFor : Operation (S .Total) → Held (S .Total) → Type 0
   HoldsFor o vacant = makes (o .kind) ≡ true
   HoldsFor o (mine t) = Unit {0}
 
-  unfoldable pub Standing : List (Cell (S .T)) → Operation (S .T) → Pending (S .T) → Type 0
+  unfoldable pub Standing : List (Cell (S .Total)) → Operation (S .Total) → Pending (S .Total) → Type 0
   Standing cells o (reading p) = Probed S cells (o .key) p
   Standing cells o (holding p h) = Probed S cells (o .key) p × HoldsFor o h
 
   -- what a step of o, p cells passed, comes to at the cell `at`
-  pub data Advance (cells : List (Cell (S .T))) (m : Map (S .T)) (o : Operation (S .T)) (p at : ℕ) (r : Stepped (S .T)) : Type 0 where
-    goes-on : (s : Pending (S .T)) → r .cell ≡ getD cells at empty → after p (r .turn) ≡ pending s → ((i : ℕ) (l : List ℕ) → logged (r .turn) i l ≡ l)
+  pub data Advance (cells : List (Cell (S .Total))) (m : Map (S .Total)) (o : Operation (S .Total)) (p at : ℕ) (r : Stepped (S .Total)) : Type 0 where
+    goes-on : (s : Pending (S .Total)) → r .cell ≡ getD cells at empty → after p (r .turn) ≡ pending s
+        → ((i : ℕ) (l : List ℕ) → logged (r .turn) i l ≡ l)
         → Standing cells o s → Advance cells m o p at r
     completes : r .turn ≡ finishes (performed S m o .answer) → Agrees S (set cells at (r .cell)) (performed S m o .after)
         → ((i q : ℕ) → Probed S cells i q → Probed S (set cells at (r .cell)) i q) → Advance cells m o p at r
 
-  module _ (cells : List (Cell (S .T))) (m : Map (S .T)) (a : Agrees S cells m) (o : Operation (S .T)) where
+  module _ (cells : List (Cell (S .Total))) (m : Map (S .Total)) (a : Agrees S cells m) (o : Operation (S .Total)) where
     -- what the map does now, where the key is present and where it is missing
-    performed-some : (t : S .T) → m .pairs (o .key) ≡ some t
+    performed-some : (t : S .Total) → m .pairs (o .key) ≡ some t
         → performed S m o ≡ by-fate (o .key) m (effect S (o .kind) t (o .amount) .answer) (effect S (o .kind) t (o .amount) .fate)
     unfolding performed
     performed-some t e = rw e (perform-some (o .kind) (o .key) (o .amount) m t)
@@ -105,12 +107,12 @@ module _ (S : Setting) (L : Lawful S) where
     performed-none e = rw e (perform-none (o .kind) (o .key) (o .amount) m)
 
     -- an operation that finishes at a read, where the map too leaves everything as it is
-    finishes-at-read : (p at : ℕ) (b : Answer (S .T)) → performed S m o ≡ unchanged m b
+    finishes-at-read : (p at : ℕ) (b : Answer (S .Total)) → performed S m o ≡ unchanged m b
         → Advance cells m o p at (record { cell = getD cells at empty; turn = finishes b })
     unfolding unchanged
     finishes-at-read p at b e =
-        completes (ap (λ (d : Done (S .T)). finishes (d .answer)) (sym e))
-        (rw (set-getD cells at empty) (subst (λ (d : Done (S .T)). Agrees S cells (d .after)) (sym e) a))
+        completes (ap (λ (d : Done (S .Total)). finishes (d .answer)) (sym e))
+        (rw (set-getD cells at empty) (subst (λ (d : Done (S .Total)). Agrees S cells (d .after)) (sym e) a))
         (λ i q h. rw (set-getD cells at empty) h)
 
     -- an operation that has passed p cells takes its step at the one after them
@@ -118,21 +120,21 @@ module _ (S : Setting) (L : Lawful S) where
       abbrev at : ℕ
       at = placeOf S (o .key) p
 
-      abbrev x : Cell (S .T)
+      abbrev x : Cell (S .Total)
       x = getD cells at empty
 
-      now-holds : (w : Held (S .T)) → HoldsFor o w → Advance cells m o p at (record { cell = x; turn = holds w })
+      now-holds : (w : Held (S .Total)) → HoldsFor o w → Advance cells m o p at (record { cell = x; turn = holds w })
       unfolding after logged Standing
       now-holds w k = goes-on (holding p w) refl refl (λ i l. refl) (h, k)
 
       -- its own key: present in the map with the total that it reads
-      read-own : (t : S .T) → keyed (o .key) x ≡ some t → (f : Fate (S .T)) → effect S (o .kind) t (o .amount) .fate ≡ f
+      read-own : (t : S .Total) → keyed (o .key) x ≡ some t → (f : Fate (S .Total)) → effect S (o .kind) t (o .amount) .fate ≡ f
           → Advance cells m o p at (record { cell = x; turn = bounded S (o .kind) p (readOwn S t (effect S (o .kind) t (o .amount) .answer) f) })
       unfolding bounded readOwn by-fate HoldsFor
       read-own t e stays q =
           finishes-at-read p at (effect S (o .kind) t (o .amount) .answer)
           (performed-some t (own-pair S at t (a .located (o .key)) e)
-          ∙ ap (λ (f : Fate (S .T)). by-fate (o .key) m (effect S (o .kind) t (o .amount) .answer) f) q)
+          ∙ ap (λ (f : Fate (S .Total)). by-fate (o .key) m (effect S (o .kind) t (o .amount) .answer) f) q)
       read-own t e ends q = now-holds (mine t) tt
       read-own t e (becomes u) q = now-holds (mine t) tt
 
@@ -182,20 +184,21 @@ module _ (S : Setting) (L : Lawful S) where
             filled = up-to (λ n. isEmpty (getD cells (placeOf S (o .key) n) empty) ≡ false) (h .filled) e;
           })
 
-      reads : (v : Sight (S .T)) → Seen (o .key) x v → Advance cells m o p at (record { cell = x; turn = bounded S (o .kind) p (read S o v) })
+      reads : (v : Sight (S .Total)) → Seen (o .key) x v → Advance cells m o p at (record { cell = x; turn = bounded S (o .kind) p (read S o v) })
       unfolding read bounded
       reads (own t) (seen-own e) = read-own t e (effect S (o .kind) t (o .amount) .fate) refl
       reads free (seen-free e f) = read-free e f (makes (o .kind)) refl
       reads other (seen-other e f) = read-other e f (eqb (suc p) (S .size)) refl
 
       -- a swap that is won stores y, where the map puts the pair o′ in
-      stores : (y : Cell (S .T)) (b : Answer (S .T)) (o′ : Option (S .T)) (n : ℕ) → Follows (o .key) x y → Located S (set cells at y) (o .key) o′
+      stores : (y : Cell (S .Total)) (b : Answer (S .Total)) (o′ : Option (S .Total)) (n : ℕ) → Follows (o .key) x y
+          → Located S (set cells at y) (o .key) o′
           → usedCells (set cells at y) ≡ n
           → performed S m o ≡ record { after = record { pairs = withPair (o .key) o′ (m .pairs); used = n }; answer = b }
           → Advance cells m o p at (record { cell = y; turn = finishes b })
       stores y b o′ n f where-now used e =
-          completes (ap (λ (d : Done (S .T)). finishes (d .answer)) (sym e))
-          (subst (λ (d : Done (S .T)). Agrees S (set cells at y) (d .after)) (sym e)
+          completes (ap (λ (d : Done (S .Total)). finishes (d .answer)) (sym e))
+          (subst (λ (d : Done (S .Total)). Agrees S (set cells at y) (d .after)) (sym e)
           (agrees-set S L cells (a .long) (o .key) at (place-below S L (o .key) p) y f o′ a where-now used))
           (λ i q. probed-set S L cells (a .long) (o .key) at (place-below S L (o .key) p) y f)
 
@@ -203,15 +206,16 @@ module _ (S : Setting) (L : Lawful S) where
       at-below = let b : at < S .size = place-below S L (o .key) p in let l : length cells ≡ S .size = a .long in omega arith
 
       -- the key then stands where y was stored
-      stands : (y : Cell (S .T)) (u : S .T) → Follows (o .key) x y → keyed (o .key) y ≡ some u
+      stands : (y : Cell (S .Total)) (u : S .Total) → Follows (o .key) x y → keyed (o .key) y ≡ some u
           → ((j : ℕ) → (j ≡ at → ⊥) → keyed (o .key) (getD cells j empty) ≡ none) → Located S (set cells at y) (o .key) (some u)
       stands y u f e elsewhere = has-set S L cells (a .long) (o .key) at (place-below S L (o .key) p) y f p u (h .below) refl e (h .filled) elsewhere
 
       -- on an empty cell: the map stores the pair
-      fill : x ≡ empty → makes (o .kind) ≡ true → Advance cells m o p at (record { cell = newCell S o vacant; turn = finishes (swapAnswer S o vacant) })
+      fill : x ≡ empty → makes (o .kind) ≡ true
+          → Advance cells m o p at (record { cell = newCell S o vacant; turn = finishes (swapAnswer S o vacant) })
       unfolding newCell swapAnswer stored isEmpty keyed
       fill e q =
-          let f : Follows (o .key) x (live (o .key) (o .amount)) = subst (λ (c : Cell (S .T)). Follows (o .key) c (live (o .key) (o .amount))) (sym e) (follows-fill (o .key) (o .amount)) in
+          let f : Follows (o .key) x (live (o .key) (o .amount)) = subst (λ (c : Cell (S .Total)). Follows (o .key) c (live (o .key) (o .amount))) (sym e) (follows-fill (o .key) (o .amount)) in
           let bare : isEmpty x ≡ true = rw e in
           let missing : m .pairs (o .key) ≡ none = free-lacks S p (a .located (o .key)) h bare (rw e) in
           stores (live (o .key) (o .amount)) inserted (some (o .amount)) (suc (m .used)) f
@@ -229,25 +233,26 @@ module _ (S : Setting) (L : Lawful S) where
               ne-eqb (m .used) (S .size) (λ r. omega arith)
 
       -- on the key's own cell: the map replaces the pair, or takes it out
-      change : (t : S .T) → x ≡ live (o .key) t → (f : Fate (S .T)) → effect S (o .kind) t (o .amount) .fate ≡ f
+      change : (t : S .Total) → x ≡ live (o .key) t → (f : Fate (S .Total)) → effect S (o .kind) t (o .amount) .fate ≡ f
           → Advance cells m o p at (record { cell = fateCell S (o .key) t f; turn = finishes (effect S (o .kind) t (o .amount) .answer) })
       unfolding fateCell by-fate replaced isEmpty keyed
-      change t e f q = go f (performed-some t (own-pair S at t (a .located (o .key)) own-here) ∙ ap (λ (f : Fate (S .T)). by-fate (o .key) m b f) q)
+      change t e f q = go f (performed-some t (own-pair S at t (a .located (o .key)) own-here) ∙ ap (λ (f : Fate (S .Total)). by-fate (o .key) m b f) q)
         where
-          b : Answer (S .T)
+          b : Answer (S .Total)
           b = effect S (o .kind) t (o .amount) .answer
 
           own-here : keyed (o .key) x ≡ some t
           own-here = rw e (keyed-live (o .key) t)
 
-          follows : (y : Cell (S .T)) → ((j : ℕ) → (j ≡ o .key → ⊥) → keyed j y ≡ none) → isEmpty y ≡ false → Follows (o .key) x y
-          follows y k l = subst (λ (c : Cell (S .T)). Follows (o .key) c y) (sym e) (follows-own (o .key) t y k l)
+          follows : (y : Cell (S .Total)) → ((j : ℕ) → (j ≡ o .key → ⊥) → keyed j y ≡ none) → isEmpty y ≡ false → Follows (o .key) x y
+          follows y k l = subst (λ (c : Cell (S .Total)). Follows (o .key) c y) (sym e) (follows-own (o .key) t y k l)
 
-          used : (y : Cell (S .T)) → isEmpty y ≡ false → usedCells (set cells at y) ≡ m .used
+          used : (y : Cell (S .Total)) → isEmpty y ≡ false → usedCells (set cells at y) ≡ m .used
           used y l = used-keep cells at y (rw e) l ∙ a .used
 
-          go : (f : Fate (S .T)) → performed S m o ≡ by-fate (o .key) m b f → Advance cells m o p at (record { cell = fateCell S (o .key) t f; turn = finishes b })
-          go stays r = subst (λ (c : Cell (S .T)). Advance cells m o p at (record { cell = c; turn = finishes b })) e (finishes-at-read p at b r)
+          go : (f : Fate (S .Total)) → performed S m o ≡ by-fate (o .key) m b f
+              → Advance cells m o p at (record { cell = fateCell S (o .key) t f; turn = finishes b })
+          go stays r = subst (λ (c : Cell (S .Total)). Advance cells m o p at (record { cell = c; turn = finishes b })) e (finishes-at-read p at b r)
           go ends r =
               let f : Follows (o .key) x tombstone = follows tombstone (λ j ne. refl) refl in
               stores tombstone b none (m .used) f
@@ -259,17 +264,19 @@ module _ (S : Setting) (L : Lawful S) where
               (stands (live (o .key) u) u f (keyed-live (o .key) u) (own-alone S at t (a .located (o .key)) own-here))
               (used (live (o .key) u) refl) r
 
-      wins : (w : Held (S .T)) → HoldsFor o w → x ≡ heldCell S (o .key) w → Advance cells m o p at (record { cell = newCell S o w; turn = finishes (swapAnswer S o w) })
+      wins : (w : Held (S .Total)) → HoldsFor o w → x ≡ heldCell S (o .key) w
+          → Advance cells m o p at (record { cell = newCell S o w; turn = finishes (swapAnswer S o w) })
       unfolding heldCell newCell swapAnswer HoldsFor
       wins vacant q e = fill e q
       wins (mine t) q e = change t e (effect S (o .kind) t (o .amount) .fate) refl
 
-      swaps : (w : Held (S .T)) → HoldsFor o w → (z : Bool) → sameCell S x (heldCell S (o .key) w) ≡ z → Advance cells m o p at (swapped S o w x z)
+      swaps : (w : Held (S .Total)) → HoldsFor o w → (z : Bool) → sameCell S x (heldCell S (o .key) w) ≡ z
+          → Advance cells m o p at (swapped S o w x z)
       unfolding swapped after logged Standing
       swaps w k true q = wins w k (same-cell-sound S (L .same-sound) x (heldCell S (o .key) w) (true-T (sameCell S x (heldCell S (o .key) w)) q))
       swaps w k false q = goes-on (reading p) refl refl (λ i l. refl) h
 
-    pub advance : (s : Pending (S .T)) → Standing cells o s
+    pub advance : (s : Pending (S .Total)) → Standing cells o s
         → Advance cells m o (passed S s) (placeOf S (o .key) (passed S s)) (step S o s (getD cells (placeOf S (o .key) (passed S s)) empty))
     unfolding step passed Standing
     advance (reading p) h = reads p h (sight (o .key) (getD cells (placeOf S (o .key) p) empty)) (seen (o .key) (getD cells (placeOf S (o .key) p) empty))

@@ -12,7 +12,8 @@ use borrow.Author.Tests.{eqb-true, eqb-false, eq-eqb, ne-eqb}
 use lib.Dec.{eqb}
 use lib.ListN.{length, getD, set, length-set}
 use lib.Seq.{getD-set-same, getD-set-other}
-use Rattle.semantics.specs.Cells.{Setting, Cell, empty, live, keyed, isEmpty, usedCells, lookup, orElse}
+use Rattle.semantics.specs.Basics.{orElse}
+use Rattle.semantics.specs.Cells.{Setting, Cell, empty, live, keyed, isEmpty, usedCells, lookup}
 use Rattle.semantics.specs.Step.{placeOf}
 use Rattle.semantics.specs.Map.{Map, withPair, mapOf}
 use Rattle.semantics.proofs.Laws.{Lawful, Accepted}
@@ -101,27 +102,27 @@ distance-back c h i a b =
 
 module _ (S : Setting) where
   -- where a key stands: in no cell, or in one alone, d cells on from its home with none empty before it
-  pub data Located (cells : List (Cell (S .T))) (k : ℕ) : Option (S .T) → Type 0 where
+  pub data Located (cells : List (Cell (S .Total))) (k : ℕ) : Option (S .Total) → Type 0 where
     lacks : ((j : ℕ) → keyed k (getD cells j empty) ≡ none) → Located cells k none
-    has : {t : S .T} (d : ℕ) → d < S .size → keyed k (getD cells (placeOf S k d) empty) ≡ some t
+    has : {t : S .Total} (d : ℕ) → d < S .size → keyed k (getD cells (placeOf S k d) empty) ≡ some t
         → ((e : ℕ) → e < d → isEmpty (getD cells (placeOf S k e) empty) ≡ false)
         → ((j : ℕ) → (j ≡ placeOf S k d → ⊥) → keyed k (getD cells j empty) ≡ none)
         → Located cells k (some t)
 
   -- the cells and the map hold the same pairs, and as many cells are used as the map counts
-  pub record Agrees (cells : List (Cell (S .T))) (m : Map (S .T)) : Type 0 where
+  pub record Agrees (cells : List (Cell (S .Total))) (m : Map (S .Total)) : Type 0 where
     pub long : length cells ≡ S .size
     pub located : (k : ℕ) → Located cells k (m .pairs k)
     pub used : usedCells cells ≡ m .used
 
   -- an operation of key k has passed p cells, none of them empty or its key's
-  pub record Probed (cells : List (Cell (S .T))) (k p : ℕ) : Type 0 where
+  pub record Probed (cells : List (Cell (S .Total))) (k p : ℕ) : Type 0 where
     pub below : p < S .size
     pub foreign : (e : ℕ) → e < p → keyed k (getD cells (placeOf S k e) empty) ≡ none
     pub filled : (e : ℕ) → e < p → isEmpty (getD cells (placeOf S k e) empty) ≡ false
 
   -- a key in a cell is in the map with that cell's total, and is nowhere else
-  pub own-pair : {cells : List (Cell (S .T))} {k : ℕ} {o : Option (S .T)} (j : ℕ) (t : S .T)
+  pub own-pair : {cells : List (Cell (S .Total))} {k : ℕ} {o : Option (S .Total)} (j : ℕ) (t : S .Total)
       → Located cells k o → keyed k (getD cells j empty) ≡ some t → o ≡ some t
   own-pair j t (lacks none-of) e = absurd (none-some (sym (none-of j) ∙ e))
   own-pair {cells} {k} j t (has {t = u} d h at before elsewhere) e =
@@ -130,7 +131,8 @@ module _ (S : Setting) where
         | no q ↦ absurd (none-some (sym (elsewhere j q) ∙ e))
       ]
 
-  pub own-alone : {cells : List (Cell (S .T))} {k : ℕ} {o : Option (S .T)} (i : ℕ) (t : S .T) → Located cells k o → keyed k (getD cells i empty) ≡ some t
+  pub own-alone : {cells : List (Cell (S .Total))} {k : ℕ} {o : Option (S .Total)} (i : ℕ) (t : S .Total) → Located cells k o
+      → keyed k (getD cells i empty) ≡ some t
       → (j : ℕ) → (j ≡ i → ⊥) → keyed k (getD cells j empty) ≡ none
   own-alone i t (lacks none-of) e j ne = none-of j
   own-alone {cells} {k} i t (has d l at before elsewhere) e j ne =
@@ -139,28 +141,29 @@ module _ (S : Setting) where
         | no q ↦ absurd (none-some (sym (elsewhere i q) ∙ e))
       ]
 
-  pub own-place : {cells : List (Cell (S .T))} {k : ℕ} {o : Option (S .T)} (i j : ℕ) (t u : S .T)
+  pub own-place : {cells : List (Cell (S .Total))} {k : ℕ} {o : Option (S .Total)} (i j : ℕ) (t u : S .Total)
       → Located cells k o → keyed k (getD cells i empty) ≡ some t → keyed k (getD cells j empty) ≡ some u → i ≡ j
   own-place i j t u at e f =
       elim (ℕ-discrete i j) [ yes q ↦ q | no q ↦ absurd (none-some (sym (own-alone j u at f i q) ∙ e)) ]
 
-  pub missing-alone : {cells : List (Cell (S .T))} {k : ℕ} {o : Option (S .T)} → Located cells k o → o ≡ none → (j : ℕ) → keyed k (getD cells j empty) ≡ none
+  pub missing-alone : {cells : List (Cell (S .Total))} {k : ℕ} {o : Option (S .Total)} → Located cells k o → o ≡ none → (j : ℕ)
+      → keyed k (getD cells j empty) ≡ none
   missing-alone (lacks none-of) e j = none-of j
   missing-alone (has {t = t} d l at before elsewhere) e j = absurd (none-some (sym e))
 
-  pub located-lookup : {cells : List (Cell (S .T))} {k : ℕ} {o : Option (S .T)} → Located cells k o → lookup k cells ≡ o
+  pub located-lookup : {cells : List (Cell (S .Total))} {k : ℕ} {o : Option (S .Total)} → Located cells k o → lookup k cells ≡ o
   located-lookup {cells} {k} {o} at = go (looked k cells)
     where
-      missing : {o : Option (S .T)} → ((j : ℕ) → keyed k (getD cells j empty) ≡ none) → Located cells k o → none ≡ o
+      missing : {o : Option (S .Total)} → ((j : ℕ) → keyed k (getD cells j empty) ≡ none) → Located cells k o → none ≡ o
       missing h (lacks f) = refl
       missing h (has {t = t} d l e before elsewhere) = absurd (none-some (sym (h (placeOf S k d)) ∙ e))
 
-      go : {l : Option (S .T)} → Looked k cells l → l ≡ o
+      go : {l : Option (S .Total)} → Looked k cells l → l ≡ o
       go (nowhere h) = missing h at
       go (somewhere {t = t} j e) = sym (own-pair j t at e)
 
   -- a search that meets an empty cell, or has passed all c cells, shows that the key is missing
-  pub free-lacks : {cells : List (Cell (S .T))} {k : ℕ} {o : Option (S .T)} (p : ℕ)
+  pub free-lacks : {cells : List (Cell (S .Total))} {k : ℕ} {o : Option (S .Total)} (p : ℕ)
       → Located cells k o → Probed cells k p → isEmpty (getD cells (placeOf S k p) empty) ≡ true → keyed k (getD cells (placeOf S k p) empty) ≡ none
       → o ≡ none
   free-lacks p (lacks none-of) h e f = refl
@@ -173,7 +176,7 @@ module _ (S : Setting) where
         ]
       ]
 
-  pub passed-lacks : {cells : List (Cell (S .T))} {k : ℕ} {o : Option (S .T)} (p : ℕ)
+  pub passed-lacks : {cells : List (Cell (S .Total))} {k : ℕ} {o : Option (S .Total)} (p : ℕ)
       → Located cells k o → S .size ≤ p → ((e : ℕ) → e < p → keyed k (getD cells (placeOf S k e) empty) ≡ none) → o ≡ none
   passed-lacks p (lacks none-of) h f = refl
   passed-lacks p (has {t = t} d l at before elsewhere) h f = absurd (none-some (sym (f d (omega arith)) ∙ at))
@@ -193,7 +196,7 @@ module _ (S : Setting) where
         ((j + S .size - S .home k) % S .size, mod-lt (j + S .size - S .home k) size-pos, distance-back (S .size) (S .home k) j (L .home-below k) h)
 
     -- a search that has passed all c cells has seen none empty
-    pub all-used : (cells : List (Cell (S .T))) (k : ℕ) → length cells ≡ S .size
+    pub all-used : (cells : List (Cell (S .Total))) (k : ℕ) → length cells ≡ S .size
         → ((e : ℕ) → e < S .size → isEmpty (getD cells (placeOf S k e) empty) ≡ false) → usedCells cells ≡ S .size
     all-used cells k long f = used-all cells (λ i h. seen i (place-onto k i (omega arith))) ∙ long
       where
@@ -201,22 +204,22 @@ module _ (S : Setting) where
         seen i (d, h, e) = ap (λ (n : ℕ). isEmpty (getD cells n empty)) (sym e) ∙ f d h
 
     -- the cells that the checks accept agree with the map of their pairs
-    pub start-agrees : (cells : List (Cell (S .T))) → Accepted S cells → Agrees cells (mapOf cells)
+    pub start-agrees : (cells : List (Cell (S .Total))) → Accepted S cells → Agrees cells (mapOf cells)
     unfolding mapOf
     start-agrees cells ok = record { long = ok .long; located = λ k. go k (looked k cells); used = refl }
       where
-        go : (k : ℕ) {o : Option (S .T)} → Looked k cells o → Located cells k o
+        go : (k : ℕ) {o : Option (S .Total)} → Looked k cells o → Located cells k o
         go k (nowhere h) = lacks h
         go k (somewhere {t = t} j e) =
             let (d, below, at, before) = ok .reached k j t e in
             has d below (ap (λ (n : ℕ). keyed k (getD cells n empty)) at ∙ e) before (λ i ne. alone i (λ q. ne (q ∙ sym at)) (keyed k (getD cells i empty)) refl)
           where
-            alone : (i : ℕ) → (i ≡ j → ⊥) → (o : Option (S .T)) → keyed k (getD cells i empty) ≡ o → o ≡ none
+            alone : (i : ℕ) → (i ≡ j → ⊥) → (o : Option (S .Total)) → keyed k (getD cells i empty) ≡ o → o ≡ none
             alone i ne none f = refl
             alone i ne (some u) f = absurd (ne (ok .distinct k i j u t f e))
 
     -- one store, of y in a cell `at`, by an operation of key k
-    module _ (cells : List (Cell (S .T))) (long : length cells ≡ S .size) (k at : ℕ) (below : at < S .size) (y : Cell (S .T))
+    module _ (cells : List (Cell (S .Total))) (long : length cells ≡ S .size) (k at : ℕ) (below : at < S .size) (y : Cell (S .Total))
         (f : Follows k (getD cells at empty) y) where
       stored-at : getD (set cells at y) at empty ≡ y
       stored-at = getD-set-same cells at y empty (omega arith)
@@ -256,18 +259,18 @@ module _ (S : Setting) where
           }
 
       -- another key stands where it stood
-      pub located-set : {i : ℕ} {o : Option (S .T)} → (i ≡ k → ⊥) → Located cells i o → Located (set cells at y) i o
+      pub located-set : {i : ℕ} {o : Option (S .Total)} → (i ≡ k → ⊥) → Located cells i o → Located (set cells at y) i o
       located-set {i} ne (lacks h) = lacks (λ j. keyed-set i j ne ∙ h j)
       located-set {i} ne (has {t = t} d l e before elsewhere) =
           has d l (keyed-set i (placeOf S i d) ne ∙ e) (λ n h. filled-set (placeOf S i n) (before n h)) (λ j h. keyed-set i j ne ∙ elsewhere j h)
 
       -- the key itself stands where y was stored, or nowhere
-      pub has-set : (d : ℕ) (u : S .T) → d < S .size → placeOf S k d ≡ at → keyed k y ≡ some u
+      pub has-set : (d : ℕ) (u : S .Total) → d < S .size → placeOf S k d ≡ at → keyed k y ≡ some u
           → ((e : ℕ) → e < d → isEmpty (getD cells (placeOf S k e) empty) ≡ false)
           → ((j : ℕ) → (j ≡ at → ⊥) → keyed k (getD cells j empty) ≡ none)
           → Located (set cells at y) k (some u)
       has-set d u l q e before elsewhere =
-          has d l (ap (λ (n : ℕ). keyed k (getD (set cells at y) n empty)) q ∙ ap (λ (c : Cell (S .T)). keyed k c) stored-at ∙ e)
+          has d l (ap (λ (n : ℕ). keyed k (getD (set cells at y) n empty)) q ∙ ap (λ (c : Cell (S .Total)). keyed k c) stored-at ∙ e)
           (λ n h. filled-set (placeOf S k n) (before n h))
           (λ j h. let ne : j ≡ at → ⊥ = λ r. h (r ∙ sym q) in rw (getD-set-other cells at j y empty ne) (elsewhere j ne))
 
@@ -278,7 +281,8 @@ module _ (S : Setting) where
             | no q ↦ rw (getD-set-other cells at j y empty q) (elsewhere j q)
           ])
 
-      pub agrees-set : {m : Map (S .T)} {n : ℕ} (o : Option (S .T)) → Agrees cells m → Located (set cells at y) k o → usedCells (set cells at y) ≡ n
+      pub agrees-set : {m : Map (S .Total)} {n : ℕ} (o : Option (S .Total)) → Agrees cells m → Located (set cells at y) k o
+          → usedCells (set cells at y) ≡ n
           → Agrees (set cells at y) (record { pairs = withPair k o (m .pairs); used = n })
       unfolding withPair
       agrees-set {m} o a own u = record { long = length-set cells at y ∙ long; located = λ i. go i (eqb i k) refl; used = u }

@@ -12,9 +12,10 @@ use native.Mathlib.Decide.{ℕ-discrete}
 use borrow.Author.Tests.{eqb-true, eq-eqb, ne-eqb}
 use lib.Dec.{T as Holds, eqb}
 use lib.ListN.{length, getElem?, length-map}
+use Rattle.semantics.specs.Basics.{foldl, isSome, occurs}
 use Rattle.semantics.specs.Cells.{Setting, Cell, Kind, find, insert, update, add, remove, Operation, lookup}
-use Rattle.semantics.specs.Step.{Row, Machine, foldl, isSome, answered, answerIn, finishedIn, doneCount, run}
-use Rattle.semantics.specs.Map.{Map, Done, Replay, withPair, unchanged, replaced, mapOf, occurs, stored, perform, performed, noted, replayOne, replay, Linearizable}
+use Rattle.semantics.specs.Step.{Row, Machine, answered, answerIn, finishedIn, doneCount, run}
+use Rattle.semantics.specs.Map.{Map, Done, Replay, withPair, unchanged, replaced, mapOf, stored, perform, performed, noted, replayOne, replay, Linearizable}
 use Rattle.semantics.specs.TotalsRule.{isAdd, isFindOrAdd, onlyFindsAndAdds, isPresent, addsTo, isAdded, amountsAdded, countsAt, roomsToMake}
 use Rattle.semantics.specs.TotalsRule.{CellsSuffice, EveryOperationFinishes, expectedFrom, expected, TotalsRule}
 use Rattle.semantics.proofs.Laws.{Lawful, Accepted}
@@ -84,7 +85,8 @@ module _ {T : Type 0} where
   all-done [] e i = refl
   all-done (r ∷ rows) e i = go (isSome (answered (r .state))) refl i (λ q. all-done rows q)
     where
-      go : (z : Bool) → isSome (answered (r .state)) ≡ z → (i : ℕ) → (doneCount rows ≡ length rows → (i : ℕ) → isSome (answerIn (getElem? rows i)) ≡ isSome (getElem? rows i))
+      go : (z : Bool) → isSome (answered (r .state)) ≡ z → (i : ℕ)
+          → (doneCount rows ≡ length rows → (i : ℕ) → isSome (answerIn (getElem? rows i)) ≡ isSome (getElem? rows i))
           → isSome (answerIn (getElem? (r ∷ rows) i)) ≡ isSome (getElem? (r ∷ rows) i)
       go true q zero all-rest = q
       go true q (suc i) all-rest = all-rest (suc-inj (rw q at e)) i
@@ -94,7 +96,8 @@ module _ {T : Type 0} where
           absurd (omega arith)
 
   -- an operation that a list names is one of the list's
-  only-at : (ops : List (Operation T)) (i : ℕ) {o : Operation T} → Holds (onlyFindsAndAdds ops) → getElem? ops i ≡ some o → Holds (isFindOrAdd (o .kind))
+  only-at : (ops : List (Operation T)) (i : ℕ) {o : Operation T} → Holds (onlyFindsAndAdds ops) → getElem? ops i ≡ some o
+      → Holds (isFindOrAdd (o .kind))
   unfolding onlyFindsAndAdds
   only-at [] i h e = absurd (none-some e)
   only-at (x ∷ ops) zero {o} h e =
@@ -112,24 +115,24 @@ module _ {T : Type 0} where
 
 module _ (S : Setting) (L : Lawful S) where
   -- what an operation adds to the total of room k
-  unfoldable plussed : Option (S .T) → S .T → Option (S .T)
+  unfoldable plussed : Option (S .Total) → S .Total → Option (S .Total)
   plussed none a = some a
   plussed (some t) a = some (S .plus t a)
 
-  unfoldable add-one-to : ℕ → Option (S .T) → Operation (S .T) → Option (S .T)
+  unfoldable add-one-to : ℕ → Option (S .Total) → Operation (S .Total) → Option (S .Total)
   add-one-to k z o = cond (addsTo k o) (plussed z (o .amount)) z
 
-  unfoldable add-to : ℕ → Option (S .T) → Option (Operation (S .T)) → Option (S .T)
+  unfoldable add-to : ℕ → Option (S .Total) → Option (Operation (S .Total)) → Option (S .Total)
   add-to k z none = z
   add-to k z (some o) = add-one-to k z o
 
   -- and in which order two of them do so does not matter
-  plussed-comm : (z : Option (S .T)) (a b : S .T) → plussed (plussed z a) b ≡ plussed (plussed z b) a
+  plussed-comm : (z : Option (S .Total)) (a b : S .Total) → plussed (plussed z a) b ≡ plussed (plussed z b) a
   unfolding plussed
   plussed-comm none a b = ap some (L .plus-comm a b)
-  plussed-comm (some t) a b = ap some (L .plus-assoc t a b ∙ ap (λ (u : S .T). S .plus t u) (L .plus-comm a b) ∙ sym (L .plus-assoc t b a))
+  plussed-comm (some t) a b = ap some (L .plus-assoc t a b ∙ ap (λ (u : S .Total). S .plus t u) (L .plus-comm a b) ∙ sym (L .plus-assoc t b a))
 
-  add-comm : (k : ℕ) (z : Option (S .T)) (x y : Option (Operation (S .T))) → add-to k (add-to k z x) y ≡ add-to k (add-to k z y) x
+  add-comm : (k : ℕ) (z : Option (S .Total)) (x y : Option (Operation (S .Total))) → add-to k (add-to k z x) y ≡ add-to k (add-to k z y) x
   unfolding add-to add-one-to
   add-comm k z none y = refl
   add-comm k z (some o) none = refl
@@ -143,35 +146,36 @@ module _ (S : Setting) (L : Lawful S) where
       go false false = refl
 
   -- taken in row order they come to the expected total
-  add-all : (k : ℕ) (ops : List (Operation (S .T))) (z : Option (S .T)) → foldl (add-one-to k) z ops ≡ expectedFrom S z (amountsAdded k ops)
+  add-all : (k : ℕ) (ops : List (Operation (S .Total))) (z : Option (S .Total)) → foldl (add-one-to k) z ops ≡ expectedFrom S z (amountsAdded k ops)
   unfolding foldl expectedFrom amountsAdded add-one-to plussed
   add-all k [] none = refl
   add-all k [] (some t) = ap some (sym (L .sum-none t))
   add-all k (o ∷ ops) z = go (addsTo k o) refl z (λ y. add-all k ops y)
     where
-      go : (p : Bool) → addsTo k o ≡ p → (z : Option (S .T)) → ((y : Option (S .T)) → foldl (add-one-to k) y ops ≡ expectedFrom S y (amountsAdded k ops))
+      go : (p : Bool) → addsTo k o ≡ p → (z : Option (S .Total))
+          → ((y : Option (S .Total)) → foldl (add-one-to k) y ops ≡ expectedFrom S y (amountsAdded k ops))
           → foldl (add-one-to k) (add-one-to k z o) ops ≡ expectedFrom S z (cond p (o .amount ∷ amountsAdded k ops) (amountsAdded k ops))
       go false e z ih = rw e (ih z)
       go true e none ih = rw e (ih (some (o .amount)))
       go true e (some t) ih = rw e (ih (some (S .plus t (o .amount))) ∙ ap some (sym (L .sum-more t (o .amount) (amountsAdded k ops))))
 
-  module _ (ops : List (Operation (S .T))) where
+  module _ (ops : List (Operation (S .Total))) where
     -- the cells not empty and the rooms still to make are at most c
-    unfoldable Enough : Map (S .T) → Type 0
+    unfoldable Enough : Map (S .Total) → Type 0
     Enough m = m .used + roomsToMake (λ k. isSome (m .pairs k)) ops ≤ S .size
 
     -- the pair that is put in is what an add makes of the one before
-    paired : (key : ℕ) (a : S .T) (m : Map (S .T)) (z : Option (S .T)) → m .pairs key ≡ z → (k : ℕ)
+    paired : (key : ℕ) (a : S .Total) (m : Map (S .Total)) (z : Option (S .Total)) → m .pairs key ≡ z → (k : ℕ)
         → withPair key (plussed z a) (m .pairs) k ≡ cond (eqb k key) (plussed (m .pairs k) a) (m .pairs k)
     unfolding withPair
     paired key a m z e k = go (eqb k key) refl
       where
         go : (p : Bool) → eqb k key ≡ p → cond p (plussed z a) (m .pairs k) ≡ cond p (plussed (m .pairs k) a) (m .pairs k)
-        go true q = ap (λ (y : Option (S .T)). plussed y a) (sym e ∙ ap (m .pairs) (sym (eqb-true k key q)))
+        go true q = ap (λ (y : Option (S .Total)). plussed y a) (sym e ∙ ap (m .pairs) (sym (eqb-true k key q)))
         go false q = refl
 
     -- with a room made, one fewer is left to make; with a total changed, as many
-    room-made : (key : ℕ) (u : S .T) (m : Map (S .T)) → m .pairs key ≡ none → isAdded key ops ≡ true
+    room-made : (key : ℕ) (u : S .Total) (m : Map (S .Total)) → m .pairs key ≡ none → isAdded key ops ≡ true
         → roomsToMake (λ k. isSome (m .pairs k)) ops ≡ suc (roomsToMake (λ k. isSome (withPair key (some u) (m .pairs) k)) ops)
     unfolding withPair with-key isSome
     room-made key u m e h =
@@ -182,7 +186,7 @@ module _ (S : Setting) (L : Lawful S) where
         go k true = refl
         go k false = refl
 
-    room-kept : (key : ℕ) (t u : S .T) (m : Map (S .T)) → m .pairs key ≡ some t
+    room-kept : (key : ℕ) (t u : S .Total) (m : Map (S .Total)) → m .pairs key ≡ some t
         → roomsToMake (λ k. isSome (m .pairs k)) ops ≡ roomsToMake (λ k. isSome (withPair key (some u) (m .pairs) k)) ops
     unfolding withPair isSome
     room-kept key t u m e = rooms-same (λ k. isSome (m .pairs k)) (λ k. isSome (withPair key (some u) (m .pairs) k)) (λ k. go k (eqb k key) refl) ops
@@ -192,11 +196,11 @@ module _ (S : Setting) (L : Lawful S) where
         go k false q = refl
 
     -- a find or an add on the map: what it adds, and that there is still room enough
-    record Performs (kind : Kind) (key : ℕ) (a : S .T) (m : Map (S .T)) (d : Done (S .T)) : Type 0 where
+    record Performs (kind : Kind) (key : ℕ) (a : S .Total) (m : Map (S .Total)) (d : Done (S .Total)) : Type 0 where
       pairs : (k : ℕ) → d .after .pairs k ≡ cond (isAdd kind && eqb k key) (plussed (m .pairs k) a) (m .pairs k)
       enough : Enough (d .after)
 
-    performs : (kind : Kind) (key : ℕ) (a : S .T) (m : Map (S .T)) (z : Option (S .T)) → m .pairs key ≡ z → Holds (isFindOrAdd kind)
+    performs : (kind : Kind) (key : ℕ) (a : S .Total) (m : Map (S .Total)) (z : Option (S .Total)) → m .pairs key ≡ z → Holds (isFindOrAdd kind)
         → (isAdd kind ≡ true → isAdded key ops ≡ true) → Enough m → Performs kind key a m (perform S kind key a m z)
     unfolding perform unchanged replaced stored plussed isAdd isFindOrAdd Enough
     performs find key a m none e h named en = record { pairs = λ k. refl; enough = en }
@@ -210,14 +214,14 @@ module _ (S : Setting) (L : Lawful S) where
     performs add key a m (some t) e h named en = record { pairs = paired key a m (some t) e; enough = rw (← room-kept key t (S .plus t a) m e) en }
 
     -- so each room's pair, as the log is replayed, is what the adds named so far make of it
-    replayed : Holds (onlyFindsAndAdds ops) → (l : List ℕ) (r : Replay (S .T)) → Enough (r .now) → (k : ℕ)
+    replayed : Holds (onlyFindsAndAdds ops) → (l : List ℕ) (r : Replay (S .Total)) → Enough (r .now) → (k : ℕ)
         → foldl (λ b i. replayOne S b (getElem? ops i)) r l .now .pairs k ≡ foldl (λ z i. add-to k z (getElem? ops i)) (r .now .pairs k) l
     unfolding foldl replayOne noted performed add-to add-one-to addsTo
     replayed only [] r en k = refl
     replayed only (i ∷ l) r en k = go (getElem? ops i) refl (λ r′ en′. replayed only l r′ en′ k)
       where
-        go : (x : Option (Operation (S .T))) → getElem? ops i ≡ x
-            → ((r′ : Replay (S .T)) → Enough (r′ .now)
+        go : (x : Option (Operation (S .Total))) → getElem? ops i ≡ x
+            → ((r′ : Replay (S .Total)) → Enough (r′ .now)
             → foldl (λ b i. replayOne S b (getElem? ops i)) r′ l .now .pairs k ≡ foldl (λ z i. add-to k z (getElem? ops i)) (r′ .now .pairs k) l)
             → foldl (λ b i. replayOne S b (getElem? ops i)) (replayOne S r x) l .now .pairs k ≡ foldl (λ z i. add-to k z (getElem? ops i)) (add-to k (r .now .pairs k) x) l
         go none e ih = ih r en
@@ -225,19 +229,21 @@ module _ (S : Setting) (L : Lawful S) where
             let p : Performs (o .kind) (o .key) (o .amount) (r .now) (performed S (r .now) o) =
             performs (o .kind) (o .key) (o .amount) (r .now) (r .now .pairs (o .key)) refl (only-at ops i only e) (added-at ops i e) en in
             ih (noted S r (performed S (r .now) o)) (p .enough)
-            ∙ ap (λ (z : Option (S .T)). foldl (λ z i. add-to k z (getElem? ops i)) z l) (p .pairs k)
+            ∙ ap (λ (z : Option (S .Total)). foldl (λ z i. add-to k z (getElem? ops i)) z l) (p .pairs k)
 
   -- where every operation has finished, the log names each of them once
-  each-once : (start : List (Cell (S .T))) (ops : List (Operation (S .T))) (m : Machine (S .T)) → Linearizable S start ops m → doneCount (m .rows) ≡ length ops
+  each-once : (start : List (Cell (S .Total))) (ops : List (Operation (S .Total))) (m : Machine (S .Total)) → Linearizable S start ops m
+      → doneCount (m .rows) ≡ length ops
       → (i : ℕ) → occurs i (m .log) ≡ occurs i (indices (length ops))
   each-once start ops m lin done i =
       lin .once i ∙ ap (λ (z : Bool). cond z 1 0) (all-done (m .rows) (done ∙ ap length (sym (lin .operations)) ∙ length-map (m .rows) (λ r. r .operation)) i ∙ there)
       ∙ sym (occurs-indices ops i)
     where
       there : isSome (getElem? (m .rows) i) ≡ isSome (getElem? ops i)
-      there = sym (some-map (λ (r : Row (S .T)). r .operation) (m .rows) i) ∙ ap (λ (l : List (Operation (S .T))). isSome (getElem? l i)) (lin .operations)
+      there = sym (some-map (λ (r : Row (S .Total)). r .operation) (m .rows) i) ∙ ap (λ (l : List (Operation (S .Total))). isSome (getElem? l i)) (lin .operations)
 
-  pub totals-rule : (start : List (Cell (S .T))) → Accepted S start → (ops : List (Operation (S .T))) (schedule : List ℕ) → TotalsRule S start ops schedule
+  pub totals-rule : (start : List (Cell (S .Total))) → Accepted S start → (ops : List (Operation (S .Total))) (schedule : List ℕ)
+      → TotalsRule S start ops schedule
   unfolding TotalsRule EveryOperationFinishes CellsSuffice expected replay mapOf Enough isPresent add-to
   totals-rule start ok ops schedule only finish suffice k =
       lin .pairs k

@@ -89,7 +89,8 @@ plus-packed {k} {t} {u} p q =
 
 -- what a swap stores can be packed where the held word and the operation can
 module _ (c : ℕ) where
-  fate-packs : (kind : Kind) (k : ℕ) (t u : Total) → Packed k t → Packed k u → Packs (fateCell (narrowSetting c) k t (effect (narrowSetting c) kind t u .fate))
+  fate-packs : (kind : Kind) (k : ℕ) (t u : Total) → Packed k t → Packed k u
+      → Packs (fateCell (narrowSetting c) k t (effect (narrowSetting c) kind t u .fate))
   unfolding fateCell effect
   fate-packs find k t u p q = p
   fate-packs insert k t u p q = p

@@ -10,11 +10,12 @@ use lib.Dec.{T, eqb}
 use borrow.Author.Tests.{eqb-true, eqb-false}
 use lib.ListN.{length, getD, getElem?, take, drop, length-map, List·getD-append, List·getD-map}
 use lib.Seq.{take-at}
+use Rattle.semantics.specs.Basics.{isSome, occurs}
 use Rattle.semantics.specs.Totals.{Total, amounts, narrow, narrowCeiling, sumAt, heldAt}
 use Rattle.semantics.specs.Cells.{Setting, Cell, empty, Operation, Answer, keyed, lookup, usedCells}
-use Rattle.semantics.specs.Step.{doneCount, Pending, reading, holding, pending, Row, Machine, answerIn, isSome, finishedIn, idled}
+use Rattle.semantics.specs.Step.{doneCount, Pending, reading, holding, pending, Row, Machine, answerIn, finishedIn, idled}
 use Rattle.semantics.specs.Step.{heldCell, sameCell, swapped, step, passed, placeOf, taken, entry, freshRow, begin, run}
-use Rattle.semantics.specs.Map.{occurs, Linearizable}
+use Rattle.semantics.specs.Map.{Linearizable}
 use Rattle.semantics.specs.TotalsRule.{TotalsRule, EveryOperationFinishes, amountsAdded, addsTo, expectedFrom, expected}
 use Rattle.semantics.specs.Words.{decode, encode, decodeOperation, answerWord, narrowSetting, isLiveKey, keyOf, totalBits}
 use Rattle.semantics.specs.Refusals.{Call, runRefusal}
@@ -36,7 +37,8 @@ answers-of [] i = refl
 answers-of (r ∷ rows) zero = refl
 answers-of (r ∷ rows) (suc i) = answers-of rows i
 
-answer-at : (rows : List (Row Total)) (answers : List ℕ) (i : ℕ) → i < length rows → getD (over (map answerOf rows) answers) i 0 ≡ answerWord (answerIn (getElem? rows i))
+answer-at : (rows : List (Row Total)) (answers : List ℕ) (i : ℕ) → i < length rows
+    → getD (over (map answerOf rows) answers) i 0 ≡ answerWord (answerIn (getElem? rows i))
 unfolding over
 answer-at rows answers i h =
     List·getD-append (map answerOf rows) (drop (length (map answerOf rows)) answers) 0 i (omega (arith, length-map rows answerOf)) ∙ answers-of rows i
@@ -78,7 +80,8 @@ live-keyed ws i l = rw (List·getD-map decode ws i 0, affirm (isLiveKey (keyOf (
 
 -- every cell that a run leaves can be packed
 module _ (c : ℕ) where
-  step-packs : (o : Operation Total) (s : Pending Total) (x : Cell Total) → Packed (o .key) (o .amount) → Packs x → Packs (step (narrowSetting c) o s x .cell)
+  step-packs : (o : Operation Total) (s : Pending Total) (x : Cell Total) → Packed (o .key) (o .amount) → Packs x
+      → Packs (step (narrowSetting c) o s x .cell)
   unfolding step swapped
   step-packs o (reading p) x q h = h
   step-packs o (holding p w) x q h = go (sameCell (narrowSetting c) x (heldCell (narrowSetting c) (o .key) w)) refl
@@ -98,7 +101,8 @@ module _ (c : ℕ) where
   unfolding idled taken
   entry-packs m i h = by-entry (narrowSetting c) AllPack m i (record { cells = h .cells; rows = h .rows }) steps
     where
-      steps : (r : Row Total) (s : Pending Total) → getElem? (m .rows) i ≡ some r → r .state ≡ pending s → AllPack (taken (narrowSetting c) m i (r .operation) s)
+      steps : (r : Row Total) (s : Pending Total) → getElem? (m .rows) i ≡ some r → r .state ≡ pending s
+          → AllPack (taken (narrowSetting c) m i (r .operation) s)
       steps r s at e =
           record {
             cells = set-everywhere Packs empty (m .cells) place (step (narrowSetting c) (r .operation) s (getD (m .cells) place empty) .cell)
@@ -110,7 +114,8 @@ module _ (c : ℕ) where
           place = placeOf (narrowSetting c) (r .operation .key) (passed (narrowSetting c) s)
 
 -- what is summed and held is the plain sum, held
-held-amount : (t : Total) (added : List Total) → t .amount ≤ narrowCeiling → sumAt narrowCeiling t added .amount ≡ min (t .amount + amounts added) narrowCeiling
+held-amount : (t : Total) (added : List Total) → t .amount ≤ narrowCeiling
+    → sumAt narrowCeiling t added .amount ≡ min (t .amount + amounts added) narrowCeiling
 unfolding sumAt heldAt amounts
 held-amount t [] h = omega arith
 held-amount t (a ∷ more) h = refl
@@ -123,7 +128,8 @@ unfoldable SmallFirst : List Total → Type 0
 SmallFirst [] = Unit {0}
 SmallFirst (t ∷ more) = t .amount ≤ narrowCeiling
 
-expected-held : (c : ℕ) (z : Option Total) (added : List Total) → SmallIf z → SmallFirst added → amountIn (expectedFrom (narrowSetting c) z added) ≡ heldSum (amountIn z) added
+expected-held : (c : ℕ) (z : Option Total) (added : List Total) → SmallIf z → SmallFirst added
+    → amountIn (expectedFrom (narrowSetting c) z added) ≡ heldSum (amountIn z) added
 unfolding amountIn expectedFrom heldSum SmallIf SmallFirst amounts
 expected-held c none [] h l = refl
 expected-held c none (a ∷ more) h l = ap some (held-amount a more l)
@@ -137,7 +143,8 @@ present-small k cells h = go (looked k cells)
     go (nowhere f) = tt
     go (somewhere {t = t} j e) = let p : Packed k t = subst Packs (keyed-is-live k (getD cells j empty) t e) (h j) in p .small
 
-added-small : (k : ℕ) (l : List (Operation Total)) → ((i : ℕ) (o : Operation Total) → getElem? l i ≡ some o → o .amount .amount ≤ narrowCeiling) → SmallFirst (amountsAdded k l)
+added-small : (k : ℕ) (l : List (Operation Total)) → ((i : ℕ) (o : Operation Total) → getElem? l i ≡ some o → o .amount .amount ≤ narrowCeiling)
+    → SmallFirst (amountsAdded k l)
 unfolding SmallFirst amountsAdded
 added-small k [] h = tt
 added-small k (o ∷ l) h = go (addsTo k o) (added-small k l (λ i. h (suc i)))
@@ -179,7 +186,8 @@ module _ (call : Call) (ok : Passed call) where
   unfolding machine run
   one-entry entries i = foldl-snoc (entry S) (begin S (map decode (call .cells)) (map decodeOperation (call .operations))) entries i
 
-  finishes-none : (entries : List ℕ) (i : ℕ) → m (entries ++ (i ∷ [])) .log ≡ m entries .log → finishedIn (entry S (m entries) i .rows) i ≡ finishedIn (m entries .rows) i
+  finishes-none : (entries : List ℕ) (i : ℕ) → m (entries ++ (i ∷ [])) .log ≡ m entries .log
+      → finishedIn (entry S (m entries) i .rows) i ≡ finishedIn (m entries .rows) i
   finishes-none entries i e =
       ap (λ (n : Machine Total). finishedIn (n .rows) i) (sym (one-entry entries i))
       ∙ one-or-none (finishedIn (m (entries ++ (i ∷ [])) .rows) i) (finishedIn (m entries .rows) i)
@@ -211,7 +219,8 @@ module _ (call : Call) (ok : Passed call) where
             ap (λ (n : Machine Total). map encode (n .cells)) (one-entry entries i) ∙ ap (map encode) (lin entries .untouched i (finishes-none entries i e));
       }
 
-  pub words-totals : (schedule : List ℕ) → TotalsWords (call .cells) (call .operations) (map encode (m schedule .cells)) (doneCount (m schedule .rows))
+  pub words-totals : (schedule : List ℕ)
+      → TotalsWords (call .cells) (call .operations) (map encode (m schedule .cells)) (doneCount (m schedule .rows))
   unfolding TotalsWords TotalsRule EveryOperationFinishes expected roomTotal machine
   words-totals schedule only done suffice k =
       ap (λ (l : List (Cell Total)). amountIn (lookup k l)) (back schedule)
@@ -230,7 +239,8 @@ module _ (cells operations schedule answers log : List ℕ) where
   abbrev left : Result
   left = runResult cells operations schedule answers log
 
-  accepted : left .outcome .number ≡ 0 → Passed (callOf cells operations schedule answers log) × (left ≡ acceptedResult (machine cells operations schedule) answers log)
+  accepted : left .outcome .number ≡ 0
+      → Passed (callOf cells operations schedule answers log) × (left ≡ acceptedResult (machine cells operations schedule) answers log)
   unfolding runResult resultIf refusedResult
   accepted = go (eqb (runRefusal call .number) 0) refl
     where

@@ -5,14 +5,15 @@ use mathlib.Core.Bool.{Bool, true, false, cond}
 use mathlib.Core.List.{List, [], _∷_}
 use mathlib.Core.Option.{Option, none, some}
 use lib.Dec.{eqb}
+use Rattle.semantics.specs.Basics.{orElse}
 
 -- Everything that the rules leave open: the type of totals, how two are added and compared, how one is summed with others as whole numbers
 -- and then held, the number of cells c, and the home of a key.
 pub record Setting : Type 1 where
-  pub T : Type 0
-  pub plus : T → T → T
-  pub same : T → T → Bool
-  pub sum : T → List T → T
+  pub Total : Type 0
+  pub plus : Total → Total → Total
+  pub same : Total → Total → Bool
+  pub sum : Total → List Total → Total
   pub size : ℕ
   pub home : ℕ → ℕ
 
@@ -60,10 +61,6 @@ unfoldable pub keyed : {T : Type 0} → ℕ → Cell T → Option T
 keyed k empty = none
 keyed k tombstone = none
 keyed k (live j t) = cond (eqb k j) (some t) none
-
-unfoldable pub orElse : {A : Type 0} → Option A → Option A → Option A
-orElse (some a) b = some a
-orElse none b = b
 
 unfoldable pub lookup : {T : Type 0} → ℕ → List (Cell T) → Option T
 lookup k [] = none

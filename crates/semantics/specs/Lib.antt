@@ -1,3 +1,4 @@
+pub mod Basics
 pub mod Totals
 pub mod Cells
 pub mod Words

@@ -8,9 +8,10 @@ use mathlib.Core.List.{List, [], _∷_, _++_, map}
 use mathlib.Core.Option.{Option, none, some}
 use lib.Dec.{eqb}
 use lib.ListN.{length, getD, getElem?}
+use Rattle.semantics.specs.Basics.{foldl, occurs}
 use Rattle.semantics.specs.Cells.{Setting, Cell, empty, Kind, find, insert, update, add, remove, Operation, lookup, usedCells, keyed}
 use Rattle.semantics.specs.Cells.{Answer, found, present, changed, removed, inserted, absent, full}
-use Rattle.semantics.specs.Step.{Row, Machine, foldl, entry, answerIn, finishedIn, doneCount}
+use Rattle.semantics.specs.Step.{Row, Machine, entry, answerIn, finishedIn, doneCount}
 
 -- "It holds pairs and a number of used cells": each key's total, or none
 pub record Map (T : Type 0) : Type 0 where
@@ -41,20 +42,15 @@ replaced k t m a = record { after = record { pairs = withPair k t (m .pairs); us
 unfoldable pub mapOf : {T : Type 0} → List (Cell T) → Map T
 mapOf cells = record { pairs = λ k. lookup k cells; used = usedCells cells }
 
--- how often i stands in a list
-unfoldable pub occurs : ℕ → List ℕ → ℕ
-occurs i [] = 0
-occurs i (j ∷ l) = cond (eqb i j) (suc (occurs i l)) (occurs i l)
-
 module _ (S : Setting) where
   -- "Insert and add of a missing key answer full exactly when used equals c; otherwise they store the pair and used grows by 1."
-  unfoldable pub stored : ℕ → S .T → Map (S .T) → Done (S .T)
+  unfoldable pub stored : ℕ → S .Total → Map (S .Total) → Done (S .Total)
   stored k amount m =
       cond (eqb (m .used) (S .size)) (unchanged m full)
       (record { after = record { pairs = withPair k (some amount) (m .pairs); used = suc (m .used) }; answer = inserted })
 
   -- the five operations, on a missing key and on one with total t
-  unfoldable pub perform : Kind → ℕ → S .T → Map (S .T) → Option (S .T) → Done (S .T)
+  unfoldable pub perform : Kind → ℕ → S .Total → Map (S .Total) → Option (S .Total) → Done (S .Total)
   -- "Find, update and remove of a missing key answer absent."
   perform find k amount m none = unchanged m absent
   perform update k amount m none = unchanged m absent
@@ -70,24 +66,24 @@ module _ (S : Setting) where
   -- "Remove deletes the pair and leaves used."
   perform remove k amount m (some t) = replaced k none m (removed t)
 
-  unfoldable pub performed : Map (S .T) → Operation (S .T) → Done (S .T)
+  unfoldable pub performed : Map (S .Total) → Operation (S .Total) → Done (S .Total)
   performed m o = perform (o .kind) (o .key) (o .amount) m (m .pairs (o .key))
 
   -- the map doing the operations that a log names, in its order
-  unfoldable pub noted : Replay (S .T) → Done (S .T) → Replay (S .T)
+  unfoldable pub noted : Replay (S .Total) → Done (S .Total) → Replay (S .Total)
   noted r d = record { now = d .after; answers = r .answers ++ (d .answer ∷ []) }
 
-  unfoldable pub replayOne : Replay (S .T) → Option (Operation (S .T)) → Replay (S .T)
+  unfoldable pub replayOne : Replay (S .Total) → Option (Operation (S .Total)) → Replay (S .Total)
   replayOne r none = r
   replayOne r (some o) = noted r (performed (r .now) o)
 
-  unfoldable pub replay : List (Cell (S .T)) → List (Operation (S .T)) → List ℕ → Replay (S .T)
+  unfoldable pub replay : List (Cell (S .Total)) → List (Operation (S .Total)) → List ℕ → Replay (S .Total)
   replay cells ops log = foldl (λ r i. replayOne r (getElem? ops i)) (record { now = mapOf cells; answers = [] }) log
 
   -- Demand 2, of a machine m that a run from the starting cells has come to, after any number of entries.
-  pub record Linearizable (start : List (Cell (S .T))) (ops : List (Operation (S .T))) (m : Machine (S .T)) : Type 0 where
+  pub record Linearizable (start : List (Cell (S .Total))) (ops : List (Operation (S .Total))) (m : Machine (S .Total)) : Type 0 where
     -- the operations are those given
-    pub operations : map (λ (r : Row (S .T)). r .operation) (m .rows) ≡ ops
+    pub operations : map (λ (r : Row (S .Total)). r .operation) (m .rows) ≡ ops
     -- every finished answer is the map's, the operations taken in log order
     pub answers : map (λ i. answerIn (getElem? (m .rows) i)) (m .log) ≡ map some (replay start ops (m .log) .answers)
     -- the live pairs are the map's
@@ -95,7 +91,7 @@ module _ (S : Setting) where
     -- its used count is the number of cells not empty
     pub used : usedCells (m .cells) ≡ replay start ops (m .log) .now .used
     -- no key has two live cells
-    pub distinct : (k i j : ℕ) (t u : S .T) → keyed k (getD (m .cells) i empty) ≡ some t → keyed k (getD (m .cells) j empty) ≡ some u → i ≡ j
+    pub distinct : (k i j : ℕ) (t u : S .Total) → keyed k (getD (m .cells) i empty) ≡ some t → keyed k (getD (m .cells) j empty) ≡ some u → i ≡ j
     -- every finished operation is in the log exactly once, and no other is
     pub once : (i : ℕ) → occurs i (m .log) ≡ cond (finishedIn (m .rows) i) 1 0
     pub counted : doneCount (m .rows) ≡ length (m .log)

@@ -1,24 +1,13 @@
 -- Document 01, "Where a call is turned away": the run's refusals 1 to 8, a list of conditions in table order.
 -- Assumes nothing.
-use Prim.Native.Nat.{ℕ, zero, suc, _+_, _-_, _%_}
-use mathlib.Core.Bool.{Bool, true, false, cond, not, _||_, _&&_}
+use Prim.Native.Nat.{ℕ, _+_, _-_, _%_}
+use mathlib.Core.Bool.{Bool, cond, not, _||_, _&&_}
 use mathlib.Core.List.{List, [], _∷_}
 use lib.Dec.{eqb, leb, ltb}
 use lib.ListN.{length, getD}
+use Rattle.semantics.specs.Basics.{firstBelow, someBelow}
 use Rattle.semantics.specs.declared.Refusal.{Refusal}
 use Rattle.semantics.specs.Words.{sizeAllowed, cellAllowed, operationAllowed, isLiveKey, keyOf, homeIn}
-
--- the first index from i on that passes a test, looking at n of them; i + n where none does
-unfoldable pub firstFrom : ℕ → ℕ → (ℕ → Bool) → ℕ
-firstFrom zero i test = i
-firstFrom (suc n) i test = elim (test i) [ true ↦ i | false ↦ firstFrom n (suc i) test ]
-
--- the first index below n that passes a test, else n; and whether there is one
-unfoldable pub firstBelow : ℕ → (ℕ → Bool) → ℕ
-firstBelow n test = firstFrom n 0 test
-
-unfoldable pub someBelow : ℕ → (ℕ → Bool) → Bool
-someBelow n test = ltb (firstBelow n test) n
 
 -- a row of the refusal table: its number, whether its condition is met, and the place
 pub record Condition : Type 0 where

@@ -8,12 +8,13 @@ use mathlib.Core.List.{List, [], _∷_, _++_, map}
 use mathlib.Core.Option.{Option, none, some}
 use lib.Dec.{T, eqb}
 use lib.ListN.{length, getD, drop}
+use Rattle.semantics.specs.Basics.{occurs}
 use Rattle.semantics.specs.declared.Refusal.{Refusal}
 use Rattle.semantics.specs.declared.Outcome.{Outcome}
 use Rattle.semantics.specs.Totals.{Total, amounts, narrowCeiling}
 use Rattle.semantics.specs.Cells.{lookup, usedCells}
 use Rattle.semantics.specs.Step.{Machine, Row, run, answered, doneCount}
-use Rattle.semantics.specs.Map.{Replay, replay, occurs}
+use Rattle.semantics.specs.Map.{Replay, replay}
 use Rattle.semantics.specs.TotalsRule.{onlyFindsAndAdds, CellsSuffice, amountsAdded}
 use Rattle.semantics.specs.Words.{decode, encode, decodeOperation, answerWord, narrowSetting, isLiveKey, keyOf}
 use Rattle.semantics.specs.Refusals.{Call, runRefusal}

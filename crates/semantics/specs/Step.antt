@@ -7,18 +7,9 @@ use mathlib.Core.List.{List, [], _∷_, _++_, map}
 use mathlib.Core.Option.{Option, none, some}
 use lib.Dec.{eqb}
 use lib.ListN.{getD, set, getElem?}
+use Rattle.semantics.specs.Basics.{isSome, foldl}
 use Rattle.semantics.specs.Cells.{Setting, Cell, empty, tombstone, live, Kind, find, insert, update, add, remove, Operation}
 use Rattle.semantics.specs.Cells.{Answer, found, present, changed, removed, inserted, absent, full}
-
--- What an operation of key k sees in a cell: its own key, an empty cell, or "another key or a tombstone".
-pub data Sight (T : Type 0) : Type 0 where
-  own : T → Sight T
-  free other : Sight T
-
-unfoldable pub sight : {T : Type 0} → ℕ → Cell T → Sight T
-sight k empty = free
-sight k tombstone = other
-sight k (live j t) = cond (eqb k j) (own t) other
 
 -- The word that an operation holds: the empty word, or its own key with a total.
 pub data Held (T : Type 0) : Type 0 where
@@ -40,28 +31,6 @@ pub data State (T : Type 0) : Type 0 where
   pending : Pending T → State T
   finished : Answer T → State T
 
--- What an operation does to the total of its key: it stays, becomes another, or ends with the key's removal.
-pub data Fate (T : Type 0) : Type 0 where
-  stays ends : Fate T
-  becomes : T → Fate T
-
-pub record Effect (T : Type 0) : Type 0 where
-  pub fate : Fate T
-  pub answer : Answer T
-
--- what one step leaves in its cell, and how its operation's record turns
-pub record Stepped (T : Type 0) : Type 0 where
-  pub cell : Cell T
-  pub turn : Turn T
-
--- "insert and add hold the empty word", "insert and add finish full": the kinds that make a missing key
-unfoldable pub makes : Kind → Bool
-makes find = false
-makes insert = true
-makes update = false
-makes add = true
-makes remove = false
-
 -- "It begins reading at the key's home, with 0 cells passed."
 unfoldable pub fresh : {T : Type 0} → State T
 fresh = pending (reading 0)
@@ -73,7 +42,122 @@ after p (holds h) = pending (holding p h)
 after p loses = pending (reading p)
 after p (finishes a) = finished a
 
--- an operation and where it stands; the cells, all operations, the log of those that finished, and the counts of lost swaps and idle entries
+-- "Reading, on the word now in the cell": what an operation of key k sees there is its own key, an empty cell, or "another key or a tombstone".
+pub data Sight (T : Type 0) : Type 0 where
+  own : T → Sight T
+  free other : Sight T
+
+unfoldable pub sight : {T : Type 0} → ℕ → Cell T → Sight T
+sight k empty = free
+sight k tombstone = other
+sight k (live j t) = cond (eqb k j) (own t) other
+
+-- What an operation does to the total of its key: it stays, becomes another, or ends with the key's removal.
+pub data Fate (T : Type 0) : Type 0 where
+  stays ends : Fate T
+  becomes : T → Fate T
+
+pub record Effect (T : Type 0) : Type 0 where
+  pub fate : Fate T
+  pub answer : Answer T
+
+-- "insert and add hold the empty word", "insert and add finish full": the kinds that make a missing key
+unfoldable pub makes : Kind → Bool
+makes find = false
+makes insert = true
+makes update = false
+makes add = true
+makes remove = false
+
+module _ (S : Setting) where
+  -- what find, insert, update, add and remove do where their key has total t, and what they answer
+  unfoldable pub effect : Kind → S .Total → S .Total → Effect (S .Total)
+  effect find t amount = record { fate = stays; answer = found t }
+  effect insert t amount = record { fate = stays; answer = present t }
+  effect update t amount = record { fate = becomes amount; answer = changed t }
+  effect add t amount = record { fate = becomes (S .plus t amount); answer = changed t }
+  effect remove t amount = record { fate = ends; answer = removed t }
+
+  -- "1. The row's key": what leaves the total as it is finishes at the read, anything else holds the word
+  unfoldable pub readOwn : S .Total → Answer (S .Total) → Fate (S .Total) → Turn (S .Total)
+  readOwn t a stays = finishes a
+  readOwn t a ends = holds (mine t)
+  readOwn t a (becomes u) = holds (mine t)
+
+  -- and "2. Empty", "3. Another key or a tombstone"
+  unfoldable pub read : Operation (S .Total) → Sight (S .Total) → Turn (S .Total)
+  read o (own t) = let e = effect (o .kind) t (o .amount) in readOwn t (e .answer) (e .fate)
+  read o free = cond (makes (o .kind)) (holds vacant) (finishes absent)
+  read o other = passes
+
+  -- "one more cell is passed. If c are now passed, insert and add finish full and the others finish absent."
+  unfoldable pub exhausted : Kind → Answer (S .Total)
+  exhausted k = cond (makes k) full absent
+
+  unfoldable pub bounded : Kind → ℕ → Turn (S .Total) → Turn (S .Total)
+  bounded k p passes = cond (eqb (suc p) (S .size)) (finishes (exhausted k)) passes
+  bounded k p loses = loses
+  bounded k p (holds h) = holds h
+  bounded k p (finishes a) = finishes a
+
+  -- "Swapping, one step after holding": the held word, as a cell
+  unfoldable pub heldCell : ℕ → Held (S .Total) → Cell (S .Total)
+  heldCell k vacant = empty
+  heldCell k (mine t) = live k t
+
+  -- "if the cell still equals the held word": whole words are compared
+  unfoldable pub sameCell : Cell (S .Total) → Cell (S .Total) → Bool
+  sameCell empty empty = true
+  sameCell empty tombstone = false
+  sameCell empty (live j u) = false
+  sameCell tombstone empty = false
+  sameCell tombstone tombstone = true
+  sameCell tombstone (live j u) = false
+  sameCell (live k t) empty = false
+  sameCell (live k t) tombstone = false
+  sameCell (live k t) (live j u) = eqb k j && S .same t u
+
+  -- "New words: on an empty cell, the key and the amount (inserted); update, the key and the amount; add, the key and the sum; remove, the
+  -- tombstone." The last three by the operation's effect.
+  unfoldable pub fateCell : ℕ → S .Total → Fate (S .Total) → Cell (S .Total)
+  fateCell k t stays = live k t
+  fateCell k t ends = tombstone
+  fateCell k t (becomes u) = live k u
+
+  unfoldable pub newCell : Operation (S .Total) → Held (S .Total) → Cell (S .Total)
+  newCell o vacant = live (o .key) (o .amount)
+  newCell o (mine t) = fateCell (o .key) t (effect (o .kind) t (o .amount) .fate)
+
+  -- "Update and add finish changed with the old total, remove finishes removed with it."
+  unfoldable pub swapAnswer : Operation (S .Total) → Held (S .Total) → Answer (S .Total)
+  swapAnswer o vacant = inserted
+  swapAnswer o (mine t) = effect (o .kind) t (o .amount) .answer
+
+-- what one step leaves in its cell, and how its operation's record turns
+pub record Stepped (T : Type 0) : Type 0 where
+  pub cell : Cell T
+  pub turn : Turn T
+
+module _ (S : Setting) where
+  -- "the new word is stored and the row finishes. Otherwise the swap is lost, counted, and the row reads the same cell again"
+  unfoldable pub swapped : Operation (S .Total) → Held (S .Total) → Cell (S .Total) → Bool → Stepped (S .Total)
+  swapped o h x true = record { cell = newCell S o h; turn = finishes (swapAnswer S o h) }
+  swapped o h x false = record { cell = x; turn = loses }
+
+  -- one step of an operation, on the one cell x that it reads
+  unfoldable pub step : Operation (S .Total) → Pending (S .Total) → Cell (S .Total) → Stepped (S .Total)
+  step o (reading p) x = record { cell = x; turn = bounded S (o .kind) p (read S o (sight (o .key) x)) }
+  step o (holding p h) x = swapped o h x (sameCell S x (heldCell S (o .key) h))
+
+  -- which cell that is: "It begins reading at the key's home"; "The cell after c − 1 is cell 0."
+  unfoldable pub passed : Pending (S .Total) → ℕ
+  passed (reading p) = p
+  passed (holding p h) = p
+
+  unfoldable pub placeOf : ℕ → ℕ → ℕ
+  placeOf k p = (S .home k + p) % S .size
+
+-- An operation and where it stands; then the cells, all operations, the log, and the counts of lost swaps and idle entries.
 pub record Row (T : Type 0) : Type 0 where
   pub operation : Operation T
   pub state : State T
@@ -103,11 +187,44 @@ logged (finishes a) i l = l ++ (i ∷ [])
 unfoldable pub idled : {T : Type 0} → Machine T → Machine T
 idled m = record { cells = m .cells; rows = m .rows; log = m .log; lost = m .lost; idle = suc (m .idle) }
 
-unfoldable pub foldl : {A B : Type 0} → (B → A → B) → B → List A → B
-foldl f b [] = b
-foldl f b (a ∷ more) = foldl f (f b a) more
+module _ (S : Setting) where
+  -- "One step changes the lent record of one row and at most one cell."
+  unfoldable pub taken : Machine (S .Total) → ℕ → Operation (S .Total) → Pending (S .Total) → Machine (S .Total)
+  taken m i o s =
+      let at = placeOf S (o .key) (passed S s) in
+      let r = step S o s (getD (m .cells) at empty) in
+      record {
+        cells = set (m .cells) at (r .cell);
+        rows = set (m .rows) i (record { operation = o; state = after (passed S s) (r .turn) });
+        log = logged (r .turn) i (m .log);
+        lost = countLost (r .turn) (m .lost);
+        idle = m .idle;
+      }
 
--- an operation's answer once it has finished
+  -- one entry of the schedule, which names a row (a number that names none is idle too; refusal 6 turns it away)
+  unfoldable pub act : Machine (S .Total) → ℕ → Operation (S .Total) → State (S .Total) → Machine (S .Total)
+  act m i o (pending s) = taken m i o s
+  act m i o (finished a) = idled m
+
+  unfoldable pub entered : Machine (S .Total) → ℕ → Option (Row (S .Total)) → Machine (S .Total)
+  entered m i none = idled m
+  entered m i (some r) = act m i (r .operation) (r .state)
+
+  unfoldable pub entry : Machine (S .Total) → ℕ → Machine (S .Total)
+  entry m i = entered m i (getElem? (m .rows) i)
+
+  -- "Before the first entry the cells are the starting cells, as lent to the run, and no row has taken a step."
+  unfoldable pub freshRow : Operation (S .Total) → Row (S .Total)
+  freshRow o = record { operation = o; state = fresh }
+
+  unfoldable pub begin : List (Cell (S .Total)) → List (Operation (S .Total)) → Machine (S .Total)
+  begin cells ops = record { cells = cells; rows = map freshRow ops; log = []; lost = 0; idle = 0 }
+
+  -- "Each entry does what the step rules say, on the cells and row records that the one before left; nothing else changes them."
+  unfoldable pub run : List (Cell (S .Total)) → List (Operation (S .Total)) → List ℕ → Machine (S .Total)
+  run cells ops schedule = foldl entry (begin cells ops) schedule
+
+-- an operation's answer once it has finished, and whether it has
 unfoldable pub answered : {T : Type 0} → State T → Option (Answer T)
 answered (pending s) = none
 answered (finished a) = some a
@@ -116,10 +233,6 @@ unfoldable pub answerIn : {T : Type 0} → Option (Row T) → Option (Answer T)
 answerIn none = none
 answerIn (some r) = answered (r .state)
 
-unfoldable pub isSome : {A : Type 0} → Option A → Bool
-isSome none = false
-isSome (some a) = true
-
 unfoldable pub finishedIn : {T : Type 0} → List (Row T) → ℕ → Bool
 finishedIn rows i = isSome (answerIn (getElem? rows i))
 
@@ -127,120 +240,3 @@ finishedIn rows i = isSome (answerIn (getElem? rows i))
 unfoldable pub doneCount : {T : Type 0} → List (Row T) → ℕ
 doneCount [] = 0
 doneCount (r ∷ rows) = cond (isSome (answered (r .state))) (suc (doneCount rows)) (doneCount rows)
-
-module _ (S : Setting) where
-  -- what find, insert, update, add and remove do where their key has total t, and what they answer
-  unfoldable pub effect : Kind → S .T → S .T → Effect (S .T)
-  effect find t amount = record { fate = stays; answer = found t }
-  effect insert t amount = record { fate = stays; answer = present t }
-  effect update t amount = record { fate = becomes amount; answer = changed t }
-  effect add t amount = record { fate = becomes (S .plus t amount); answer = changed t }
-  effect remove t amount = record { fate = ends; answer = removed t }
-
-  -- "The row's key": what leaves the total as it is finishes at the read, anything else holds the word
-  unfoldable pub readOwn : S .T → Answer (S .T) → Fate (S .T) → Turn (S .T)
-  readOwn t a stays = finishes a
-  readOwn t a ends = holds (mine t)
-  readOwn t a (becomes u) = holds (mine t)
-
-  -- "Reading, on the word now in the cell"
-  unfoldable pub read : Operation (S .T) → Sight (S .T) → Turn (S .T)
-  read o (own t) = let e = effect (o .kind) t (o .amount) in readOwn t (e .answer) (e .fate)
-  read o free = cond (makes (o .kind)) (holds vacant) (finishes absent)
-  read o other = passes
-
-  -- "one more cell is passed. If c are now passed, insert and add finish full and the others finish absent."
-  unfoldable pub exhausted : Kind → Answer (S .T)
-  exhausted k = cond (makes k) full absent
-
-  unfoldable pub bounded : Kind → ℕ → Turn (S .T) → Turn (S .T)
-  bounded k p passes = cond (eqb (suc p) (S .size)) (finishes (exhausted k)) passes
-  bounded k p loses = loses
-  bounded k p (holds h) = holds h
-  bounded k p (finishes a) = finishes a
-
-  -- the word that is held, as a cell
-  unfoldable pub heldCell : ℕ → Held (S .T) → Cell (S .T)
-  heldCell k vacant = empty
-  heldCell k (mine t) = live k t
-
-  -- "New words: .. update, the key and the amount; add, the key and the sum; remove, the tombstone."
-  unfoldable pub fateCell : ℕ → S .T → Fate (S .T) → Cell (S .T)
-  fateCell k t stays = live k t
-  fateCell k t ends = tombstone
-  fateCell k t (becomes u) = live k u
-
-  -- "New words: on an empty cell, the key and the amount (inserted)"; else by the operation's effect
-  unfoldable pub newCell : Operation (S .T) → Held (S .T) → Cell (S .T)
-  newCell o vacant = live (o .key) (o .amount)
-  newCell o (mine t) = fateCell (o .key) t (effect (o .kind) t (o .amount) .fate)
-
-  unfoldable pub swapAnswer : Operation (S .T) → Held (S .T) → Answer (S .T)
-  swapAnswer o vacant = inserted
-  swapAnswer o (mine t) = effect (o .kind) t (o .amount) .answer
-
-  -- "if the cell still equals the held word": whole words are compared
-  unfoldable pub sameCell : Cell (S .T) → Cell (S .T) → Bool
-  sameCell empty empty = true
-  sameCell empty tombstone = false
-  sameCell empty (live j u) = false
-  sameCell tombstone empty = false
-  sameCell tombstone tombstone = true
-  sameCell tombstone (live j u) = false
-  sameCell (live k t) empty = false
-  sameCell (live k t) tombstone = false
-  sameCell (live k t) (live j u) = eqb k j && S .same t u
-
-  -- "the new word is stored and the row finishes. Otherwise the swap is lost, counted, and the row reads the same cell again"
-  unfoldable pub swapped : Operation (S .T) → Held (S .T) → Cell (S .T) → Bool → Stepped (S .T)
-  swapped o h x true = record { cell = newCell o h; turn = finishes (swapAnswer o h) }
-  swapped o h x false = record { cell = x; turn = loses }
-
-  -- one step of an operation, on the one cell that it reads
-  unfoldable pub step : Operation (S .T) → Pending (S .T) → Cell (S .T) → Stepped (S .T)
-  step o (reading p) x = record { cell = x; turn = bounded (o .kind) p (read o (sight (o .key) x)) }
-  step o (holding p h) x = swapped o h x (sameCell x (heldCell (o .key) h))
-
-  unfoldable pub passed : Pending (S .T) → ℕ
-  passed (reading p) = p
-  passed (holding p h) = p
-
-  -- "It begins reading at the key's home"; "The cell after c − 1 is cell 0."
-  unfoldable pub placeOf : ℕ → ℕ → ℕ
-  placeOf k p = (S .home k + p) % S .size
-
-  -- "One step changes the lent record of one row and at most one cell."
-  unfoldable pub taken : Machine (S .T) → ℕ → Operation (S .T) → Pending (S .T) → Machine (S .T)
-  taken m i o s =
-      let at = placeOf (o .key) (passed s) in
-      let r = step o s (getD (m .cells) at empty) in
-      record {
-        cells = set (m .cells) at (r .cell);
-        rows = set (m .rows) i (record { operation = o; state = after (passed s) (r .turn) });
-        log = logged (r .turn) i (m .log);
-        lost = countLost (r .turn) (m .lost);
-        idle = m .idle;
-      }
-
-  unfoldable pub act : Machine (S .T) → ℕ → Operation (S .T) → State (S .T) → Machine (S .T)
-  act m i o (pending s) = taken m i o s
-  act m i o (finished a) = idled m
-
-  -- one entry of the schedule, which names a row (a number that names none is idle too; refusal 6 turns it away)
-  unfoldable pub entered : Machine (S .T) → ℕ → Option (Row (S .T)) → Machine (S .T)
-  entered m i none = idled m
-  entered m i (some r) = act m i (r .operation) (r .state)
-
-  unfoldable pub entry : Machine (S .T) → ℕ → Machine (S .T)
-  entry m i = entered m i (getElem? (m .rows) i)
-
-  -- "Before the first entry the cells are the starting cells, as lent to the run, and no row has taken a step."
-  unfoldable pub freshRow : Operation (S .T) → Row (S .T)
-  freshRow o = record { operation = o; state = fresh }
-
-  unfoldable pub begin : List (Cell (S .T)) → List (Operation (S .T)) → Machine (S .T)
-  begin cells ops = record { cells = cells; rows = map freshRow ops; log = []; lost = 0; idle = 0 }
-
-  -- "Each entry does what the step rules say, on the cells and row records that the one before left; nothing else changes them."
-  unfoldable pub run : List (Cell (S .T)) → List (Operation (S .T)) → List ℕ → Machine (S .T)
-  run cells ops schedule = foldl entry (begin cells ops) schedule

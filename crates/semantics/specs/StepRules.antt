@@ -10,12 +10,12 @@ use Rattle.semantics.specs.Step.{own, free, other, sight, Held, vacant, 
 use Rattle.semantics.specs.Step.{makes, effect, readOwn, read, exhausted, heldCell, fateCell, newCell, swapAnswer, swapped}
 
 -- an operation of key k with an amount, at a cell x; t is the total of its key
-module _ (S : Setting) (k : ℕ) (amount t : S .T) (x : Cell (S .T)) where
-  abbrev row : Kind → Operation (S .T)
+module _ (S : Setting) (k : ℕ) (amount t : S .Total) (x : Cell (S .Total)) where
+  abbrev row : Kind → Operation (S .Total)
   row kind = record { kind = kind; key = k; amount = amount }
 
   -- "It begins reading at the key's home, with 0 cells passed."
-  begins : fresh {T = S .T} ≡ pending (reading 0)
+  begins : fresh {T = S .Total} ≡ pending (reading 0)
   unfolding fresh
   begins = refl
 
@@ -30,7 +30,7 @@ module _ (S : Setting) (k : ℕ) (amount t : S .T) (x : Cell (S .T)) where
   the-key = (refl, refl, refl, refl, refl, refl)
 
   -- "2. Empty: find, update and remove finish absent; insert and add hold the empty word."
-  an-empty-cell : (sight {T = S .T} k empty ≡ free)
+  an-empty-cell : (sight {T = S .Total} k empty ≡ free)
       × (read S (row find) free ≡ finishes absent)
       × (read S (row update) free ≡ finishes absent)
       × (read S (row remove) free ≡ finishes absent)
@@ -41,7 +41,7 @@ module _ (S : Setting) (k : ℕ) (amount t : S .T) (x : Cell (S .T)) where
   an-empty-cell = (refl, refl, refl, refl, refl, refl, refl)
 
   -- "3. Another key or a tombstone: one more cell is passed."
-  another : (sight {T = S .T} k tombstone ≡ other) × ((kind : Kind) → read S (row kind) other ≡ passes)
+  another : (sight {T = S .Total} k tombstone ≡ other) × ((kind : Kind) → read S (row kind) other ≡ passes)
   unfolding sight read
   another = (refl, λ kind. refl)
 
@@ -51,16 +51,16 @@ module _ (S : Setting) (k : ℕ) (amount t : S .T) (x : Cell (S .T)) where
       × (exhausted S find ≡ absent)
       × (exhausted S update ≡ absent)
       × (exhausted S remove ≡ absent)
-      × ((p : ℕ) → after {T = S .T} p passes ≡ pending (reading (suc p)))
+      × ((p : ℕ) → after {T = S .Total} p passes ≡ pending (reading (suc p)))
   unfolding exhausted makes after
   all-passed = (refl, refl, refl, refl, refl, λ p. refl)
 
   -- "Swapping, one step after holding: if the cell still equals the held word, the new word is stored and the row finishes. Otherwise the
   -- swap is lost, counted, and the row reads the same cell again at its following step."
-  swapping : ((p : ℕ) (h : Held (S .T)) → after p (holds h) ≡ pending (holding p h))
-      × ((o : Operation (S .T)) (h : Held (S .T)) → swapped S o h x true ≡ record { cell = newCell S o h; turn = finishes (swapAnswer S o h) })
-      × ((o : Operation (S .T)) (h : Held (S .T)) → swapped S o h x false ≡ record { cell = x; turn = loses })
-      × ((p : ℕ) → after {T = S .T} p loses ≡ pending (reading p))
+  swapping : ((p : ℕ) (h : Held (S .Total)) → after p (holds h) ≡ pending (holding p h))
+      × ((o : Operation (S .Total)) (h : Held (S .Total)) → swapped S o h x true ≡ record { cell = newCell S o h; turn = finishes (swapAnswer S o h) })
+      × ((o : Operation (S .Total)) (h : Held (S .Total)) → swapped S o h x false ≡ record { cell = x; turn = loses })
+      × ((p : ℕ) → after {T = S .Total} p loses ≡ pending (reading p))
   unfolding swapped after
   swapping = (λ p h. refl, λ o h. refl, λ o h. refl, λ p. refl)
 

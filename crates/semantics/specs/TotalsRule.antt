@@ -1,4 +1,4 @@
--- Document 01, "The totals rule, which is demand 3": one claim about a whole schedule. proofs/Totals.antt proves it.
+-- Document 01, "The totals rule, which is demand 3": one claim about a whole schedule. proofs/TotalsHold.antt proves it.
 -- Assumes nothing.
 use mathlib.Core.Path.{_≡_}
 use Prim.Native.Nat.{ℕ, suc, _+_, _≤_}
@@ -7,8 +7,9 @@ use mathlib.Core.List.{List, [], _∷_}
 use mathlib.Core.Option.{Option, none, some}
 use lib.Dec.{T, eqb}
 use lib.ListN.{length}
+use Rattle.semantics.specs.Basics.{isSome}
 use Rattle.semantics.specs.Cells.{Setting, Cell, Kind, find, insert, update, add, remove, Operation, lookup, usedCells}
-use Rattle.semantics.specs.Step.{run, isSome, doneCount}
+use Rattle.semantics.specs.Step.{run, doneCount}
 
 unfoldable pub isAdd : Kind → Bool
 isAdd find = false
@@ -57,24 +58,24 @@ roomsToMake present (o ∷ ops) = cond (countsAt present o ops) (suc (roomsToMak
 
 module _ (S : Setting) where
   -- "In judging whether the cells suffice, a tombstone is not empty": the cells not empty and the rooms to make are at most c
-  unfoldable pub CellsSuffice : List (Cell (S .T)) → List (Operation (S .T)) → Type 0
+  unfoldable pub CellsSuffice : List (Cell (S .Total)) → List (Operation (S .Total)) → Type 0
   CellsSuffice start ops = usedCells start + roomsToMake (isPresent start) ops ≤ S .size
 
   -- "Every operation finishes if .. each row is finished by some entry, so that done equals the number of rows."
-  unfoldable pub EveryOperationFinishes : List (Cell (S .T)) → List (Operation (S .T)) → List ℕ → Type 0
+  unfoldable pub EveryOperationFinishes : List (Cell (S .Total)) → List (Operation (S .Total)) → List ℕ → Type 0
   EveryOperationFinishes start ops schedule = doneCount (run S start ops schedule .rows) ≡ length ops
 
   -- "they and the starting total are summed as whole numbers before the sum is held": what a room has at the end, if anything
-  unfoldable pub expectedFrom : Option (S .T) → List (S .T) → Option (S .T)
+  unfoldable pub expectedFrom : Option (S .Total) → List (S .Total) → Option (S .Total)
   expectedFrom (some t) added = some (S .sum t added)
   expectedFrom none [] = none
   expectedFrom none (a ∷ more) = some (S .sum a more)
 
-  unfoldable pub expected : List (Cell (S .T)) → List (Operation (S .T)) → ℕ → Option (S .T)
+  unfoldable pub expected : List (Cell (S .Total)) → List (Operation (S .Total)) → ℕ → Option (S .Total)
   expected start ops k = expectedFrom (lookup k start) (amountsAdded k ops)
 
   -- Demand 3: whoever picks the schedule, each room ends with its expected total, or is not there.
-  unfoldable pub TotalsRule : List (Cell (S .T)) → List (Operation (S .T)) → List ℕ → Type 0
+  unfoldable pub TotalsRule : List (Cell (S .Total)) → List (Operation (S .Total)) → List ℕ → Type 0
   TotalsRule start ops schedule =
       T (onlyFindsAndAdds ops)
       → EveryOperationFinishes start ops schedule

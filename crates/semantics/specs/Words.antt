@@ -17,10 +17,6 @@ isPowerFrom k (suc n) c = eqb c (2 ^ k) || isPowerFrom (suc k) n c
 unfoldable pub sizeAllowed : ℕ → Bool
 sizeAllowed c = isPowerFrom 3 10 c
 
--- "Home of a key: (key × 40,503) mod 65,536, divided by (65,536 / c), rounded down."
-unfoldable pub homeIn : ℕ → ℕ → ℕ
-homeIn c k = k * 40503 % 65536 / (65536 / c)
-
 -- "The key is the upper sixteen bits of the word, the total the lower sixteen."
 abbrev pub keyOf : ℕ → ℕ
 keyOf w = w / 65536
@@ -47,6 +43,10 @@ encode empty = 0
 encode tombstone = tombstoneWord
 encode (live k t) = k * 65536 + t .amount
 
+-- "Home of a key: (key × 40,503) mod 65,536, divided by (65,536 / c), rounded down."
+unfoldable pub homeIn : ℕ → ℕ → ℕ
+homeIn c k = k * 40503 % 65536 / (65536 / c)
+
 -- "A row is one operation in a 64-bit word: kind × 2^32 + key × 65,536 + amount. The kind takes eight bits."
 abbrev pub kindBits : ℕ → ℕ
 kindBits w = w / 2 ^ 32 % 256
@@ -60,7 +60,8 @@ operationKey w = w / 65536 % 65536
 abbrev pub amountBits : ℕ → ℕ
 amountBits w = w % 65536
 
--- "The kind is 1 find, 2 insert, 3 update, 4 add, 5 remove." Other numbers are refused (refusal 5) and stand for nothing.
+-- "The kind is 1 find, 2 insert, 3 update, 4 add, 5 remove." Any other number is refused (refusal 5), so it
+-- does not matter that it stands for the last.
 unfoldable pub kindOf : ℕ → Kind
 kindOf n = cond (eqb n 1) find (cond (eqb n 2) insert (cond (eqb n 3) update (cond (eqb n 4) add remove)))
 
@@ -102,7 +103,7 @@ answerWord (some a) = codeOf a * 65536 + carried (totalOf a)
 abbrev pub narrowSetting : ℕ → Setting
 narrowSetting c =
     record {
-      T = Total;
+      Total = Total;
       plus = plusAt narrowCeiling;
       same = sameTotal;
       sum = sumAt narrowCeiling;
