@@ -61,6 +61,10 @@ pub map-map : {A B C : Type 0} (f : B → C) (g : A → B) (l : List A) → map 
 map-map f g [] = refl
 map-map {C = C} f g (x ∷ l) = ap (λ (r : List C). f (g x) ∷ r) (map-map f g l)
 
+pub map-id : {A : Type 0} (l : List A) → map (λ a. a) l ≡ l
+map-id [] = refl
+map-id {A} (x ∷ l) = ap (λ (r : List A). x ∷ r) (map-id l)
+
 -- a fold over one element more is one step more
 pub foldl-snoc : {A B : Type 0} (f : B → A → B) (b : B) (l : List A) (a : A) → foldl f b (l ++ (a ∷ [])) ≡ f (foldl f b l) a
 unfolding foldl
