@@ -8,7 +8,7 @@ use mathlib.Core.Option.{none, some}
 use native.Mathlib.Omega.{arith}
 use borrow.Author.Tests.{eq-eqb}
 use lib.Dec.{eqb}
-use lib.ListN.{getD, set, getElem?}
+use lib.ListN.{length, getD, set, getElem?}
 use Rattle.semantics.specs.Basics.{foldl, occurs}
 
 pub none-some : {A : Type 0} {a : A} → none ≡ some a → ⊥
@@ -26,6 +26,11 @@ module _ {A : Type 0} where
   elem-set-other (x ∷ l) zero (suc j) b h = refl
   elem-set-other (x ∷ l) (suc i) zero b h = refl
   elem-set-other (x ∷ l) (suc i) (suc j) b h = elem-set-other l i j b (λ e. h (ap suc e))
+
+  pub elem-getD : (l : List A) (i : ℕ) (d : A) {a : A} → getElem? l i ≡ some a → (i < length l) × (getD l i d ≡ a)
+  elem-getD [] i d e = absurd (none-some e)
+  elem-getD (x ∷ l) zero d {a} e = let q : x ≡ a = cc in (omega arith, q)
+  elem-getD (x ∷ l) (suc i) d e = let (h, q) = elem-getD l i d e in (omega arith, q)
 
   -- what holds of each element and of a stored one holds of each after the store
   pub elem-set-all : (P : A → Type 0) (l : List A) (i : ℕ) (b : A) → P b → ((j : ℕ) (x : A) → getElem? l j ≡ some x → P x)

@@ -28,7 +28,7 @@ occurs-without x [] h i = absurd (omega arith)
 occurs-without x (y ∷ l) h i = go (eqb x y) refl (λ p. occurs-without x l p i)
   where
     go : (z : Bool) → eqb x y ≡ z → (0 < occurs x l → occurs i l ≡ cond (eqb i x) (suc (occurs i (without x l))) (occurs i (without x l)))
-        → cond (eqb i y) (suc (occurs i l)) (occurs i l) ≡ cond (eqb i x) (suc (occurs i (cond z l (y ∷ without x l)))) (occurs i (cond z l (y ∷ without x l)))
+        → occurs i (y ∷ l) ≡ occurs i (x ∷ cond z l (y ∷ without x l))
     go true e ih = rw (eqb-true x y e)
     go false e ih =
         let p : 0 < occurs x l = rw e at h in

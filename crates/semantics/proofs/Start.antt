@@ -20,7 +20,7 @@ use Rattle.semantics.specs.Words.{sizeAllowed, homeIn, isLiveKey, keyOf,
 use Rattle.semantics.specs.Refusals.{Condition, firstMet, atFirst, Call, mostOperations, mostEntries, isRepeated, isUnreachable}
 use Rattle.semantics.specs.Refusals.{sizeNotAllowed, tooMany, tooShort, badCell, badOperation, badEntry, repeatedKey, unreachableKey, runConditions, runRefusal}
 use Rattle.semantics.proofs.Laws.{Accepted}
-use Rattle.semantics.proofs.Lists.{none-some}
+use Rattle.semantics.proofs.Lists.{elem-getD, elem-map-all}
 use Rattle.semantics.proofs.Table.{distance-back}
 use Rattle.semantics.proofs.Tests.{affirmed, neither, other-fails}
 use Rattle.semantics.proofs.Narrow.{allowed-lawful}
@@ -125,13 +125,6 @@ everywhere P d z [] h i = z
 everywhere P d z (x ∷ xs) h zero = h 0 (omega arith)
 everywhere P d z (x ∷ xs) h (suc i) = everywhere P d z xs (λ j b. h (suc j) (suc-le-suc b)) i
 
--- what holds of each element holds of one that is found
-pub found-holds : {A B : Type 0} (P : B → Type 0) (f : A → B) (d : A) (xs : List A)
-    → ((i : ℕ) → i < length xs → P (f (getD xs i d))) → (i : ℕ) (y : B) → getElem? (map f xs) i ≡ some y → P y
-found-holds P f d [] h i y e = absurd (none-some e)
-found-holds P f d (x ∷ xs) h zero y e = let g : f x ≡ y = cc in subst P g (h 0 (omega arith))
-found-holds P f d (x ∷ xs) h (suc i) y e = found-holds P f d xs (λ j b. h (suc j) (suc-le-suc b)) i y e
-
 inside : (xs : List ℕ) (i : ℕ) → 0 < getD xs i 0 → i < length xs
 inside xs i h = elim (decLt i (length xs)) [ yes l ↦ l | no l ↦ absurd (omega (arith, List·getD-eq-default xs 0 {n = i} (omega arith))) ]
 
@@ -204,7 +197,10 @@ module _ (call : Call) (p : Passed call) where
 
   pub operations-packed : (i : ℕ) (o : Operation Total) → getElem? (map decodeOperation (call .operations)) i ≡ some o → Packed (o .key) (o .amount)
   operations-packed =
-      found-holds (λ o. Packed (o .key) (o .amount)) decodeOperation 0 (call .operations) (λ i b. decode-operation-packed (getD (call .operations) i 0) (p .operations i b))
+      elem-map-all decodeOperation (λ (o : Operation Total). Packed (o .key) (o .amount)) (call .operations)
+      (λ i w e.
+      let (b, q) = elem-getD (call .operations) i 0 e in
+      decode-operation-packed w (subst (λ (v : ℕ). T (operationAllowed v)) q (p .operations i b)))
 
 pub accepted-start : (call : Call) → runRefusal call .number ≡ 0 → Accepted (narrowSetting (length (call .cells))) (map decode (call .cells))
 accepted-start call e = start-accepted call (accepted-call call e)

@@ -49,21 +49,25 @@ module _ {T : Type 0} where
   rooms-with k present h [] = refl
   rooms-with k present h (o ∷ ops) = rw (rooms-with k present h ops) (go (ℕ-discrete (o .key) k))
     where
+      added : Bool
+      added = isAdded k ops
+
       r : ℕ
       r = roomsToMake (with-key k present) ops
 
-      counts : (p : ℕ → Bool) (b : Bool) → p (o .key) ≡ b → o .key ≡ k → countsAt p o ops ≡ (isAdd (o .kind) && (not b && not (isAdded k ops)))
+      counts : (p : ℕ → Bool) (b : Bool) → p (o .key) ≡ b → o .key ≡ k → countsAt p o ops ≡ (isAdd (o .kind) && (not b && not added))
       counts p b e q = ap₂ (λ (x : Bool) (n : ℕ). isAdd (o .kind) && (not x && not (isAdded n ops))) e q
 
-      go : Dec (o .key ≡ k) → cond (countsAt present o ops) (suc (cond (isAdded k ops) (suc r) r)) (cond (isAdded k ops) (suc r) r)
-          ≡ cond (addsTo k o || isAdded k ops) (suc (cond (countsAt (with-key k present) o ops) (suc r) r)) (cond (countsAt (with-key k present) o ops) (suc r) r)
+      then : Bool → ℕ
+      then z = cond z (suc r) r
+
+      go : Dec (o .key ≡ k) → cond (countsAt present o ops) (suc (then added)) (then added)
+          ≡ cond (addsTo k o || added) (suc (then (countsAt (with-key k present) o ops))) (then (countsAt (with-key k present) o ops))
       go (yes q) =
           let mine : eqb k (o .key) ≡ true = eq-eqb k (o .key) (sym q) in
           rw (counts present false (ap present q ∙ h) q, counts (with-key k present) true (rw (eq-eqb (o .key) k q)) q, mine)
-          (own-room (isAdd (o .kind)) (isAdded k ops) r)
-      go (no q) =
-          rw (ne-eqb (o .key) k q, ne-eqb k (o .key) (λ e. q (sym e)), and-false)
-          (cond-swap (countsAt present o ops) (isAdded k ops) r)
+          (own-room (isAdd (o .kind)) added r)
+      go (no q) = rw (ne-eqb (o .key) k q, ne-eqb k (o .key) (λ e. q (sym e)), and-false) (cond-swap (countsAt present o ops) added r)
 
   rooms-same : (p q : ℕ → Bool) → ((k : ℕ) → p k ≡ q k) → (ops : List (Operation T)) → roomsToMake p ops ≡ roomsToMake q ops
   unfolding roomsToMake countsAt
@@ -110,7 +114,8 @@ module _ {T : Type 0} where
   added-at [] i e h = absurd (none-some e)
   added-at (x ∷ ops) zero {o} e h =
       let q : x ≡ o = cc in
-      subst (λ (y : Operation T). (isAdd (y .kind) && eqb (o .key) (y .key) || isAdded (o .key) ops) ≡ true) (sym q) (rw (h, eq-eqb (o .key) (o .key) refl))
+      subst (λ (y : Operation T). (isAdd (y .kind) && eqb (o .key) (y .key) || isAdded (o .key) ops) ≡ true) (sym q)
+      (rw (h, eq-eqb (o .key) (o .key) refl))
   added-at (x ∷ ops) (suc i) {o} e h = rw (added-at ops i e h) (or-true (isAdd (x .kind) && eqb (o .key) (x .key)))
 
 module _ (S : Setting) (L : Lawful S) where
@@ -160,9 +165,12 @@ module _ (S : Setting) (L : Lawful S) where
       go true e (some t) ih = rw e (ih (some (S .plus t (o .amount))) ∙ ap some (sym (L .sum-more t (o .amount) (amountsAdded k ops))))
 
   module _ (ops : List (Operation (S .Total))) where
-    -- the cells not empty and the rooms still to make are at most c
+    -- the rooms still to make, where a map has some pairs; with the cells not empty they are at most c
+    abbrev toMake : (ℕ → Option (S .Total)) → ℕ
+    toMake pairs = roomsToMake (λ k. isSome (pairs k)) ops
+
     unfoldable Enough : Map (S .Total) → Type 0
-    Enough m = m .used + roomsToMake (λ k. isSome (m .pairs k)) ops ≤ S .size
+    Enough m = m .used + toMake (m .pairs) ≤ S .size
 
     -- the pair that is put in is what an add makes of the one before
     paired : (key : ℕ) (a : S .Total) (m : Map (S .Total)) (z : Option (S .Total)) → m .pairs key ≡ z → (k : ℕ)
@@ -176,20 +184,18 @@ module _ (S : Setting) (L : Lawful S) where
 
     -- with a room made, one fewer is left to make; with a total changed, as many
     room-made : (key : ℕ) (u : S .Total) (m : Map (S .Total)) → m .pairs key ≡ none → isAdded key ops ≡ true
-        → roomsToMake (λ k. isSome (m .pairs k)) ops ≡ suc (roomsToMake (λ k. isSome (withPair key (some u) (m .pairs) k)) ops)
+        → toMake (m .pairs) ≡ suc (toMake (withPair key (some u) (m .pairs)))
     unfolding withPair with-key isSome
     room-made key u m e h =
-        rooms-with key (λ k. isSome (m .pairs k)) (rw e) ops
-        ∙ rw h (ap suc (rooms-same (with-key key (λ k. isSome (m .pairs k))) (λ k. isSome (withPair key (some u) (m .pairs) k)) (λ k. go k (eqb k key)) ops))
+        rooms-with key (λ k. isSome (m .pairs k)) (rw e) ops ∙ rw h (ap suc (rooms-same (with-key key (λ k. isSome (m .pairs k))) _ (λ k. go k (eqb k key)) ops))
       where
         go : (k : ℕ) (p : Bool) → cond p true (isSome (m .pairs k)) ≡ isSome (cond p (some u) (m .pairs k))
         go k true = refl
         go k false = refl
 
-    room-kept : (key : ℕ) (t u : S .Total) (m : Map (S .Total)) → m .pairs key ≡ some t
-        → roomsToMake (λ k. isSome (m .pairs k)) ops ≡ roomsToMake (λ k. isSome (withPair key (some u) (m .pairs) k)) ops
+    room-kept : (key : ℕ) (t u : S .Total) (m : Map (S .Total)) → m .pairs key ≡ some t → toMake (m .pairs) ≡ toMake (withPair key (some u) (m .pairs))
     unfolding withPair isSome
-    room-kept key t u m e = rooms-same (λ k. isSome (m .pairs k)) (λ k. isSome (withPair key (some u) (m .pairs) k)) (λ k. go k (eqb k key) refl) ops
+    room-kept key t u m e = rooms-same (λ k. isSome (m .pairs k)) _ (λ k. go k (eqb k key) refl) ops
       where
         go : (k : ℕ) (p : Bool) → eqb k key ≡ p → isSome (m .pairs k) ≡ isSome (cond p (some u) (m .pairs k))
         go k true q = rw (eqb-true k key q, e)
@@ -209,49 +215,62 @@ module _ (S : Setting) (L : Lawful S) where
     performs update key a m z e h named en = absurd h
     performs remove key a m z e h named en = absurd h
     performs add key a m none e h named en =
-        let r : roomsToMake (λ k. isSome (m .pairs k)) ops ≡ suc (roomsToMake (λ k. isSome (withPair key (some a) (m .pairs) k)) ops) = room-made key a m e (named refl) in
+        let fewer = room-made key a m e (named refl) in
         rw (ne-eqb (m .used) (S .size) (λ q. omega arith)) (record { pairs = paired key a m none e; enough = omega arith })
-    performs add key a m (some t) e h named en = record { pairs = paired key a m (some t) e; enough = rw (← room-kept key t (S .plus t a) m e) en }
+    performs add key a m (some t) e h named en =
+        record { pairs = paired key a m (some t) e; enough = rw (← room-kept key t (S .plus t a) m e) en }
 
     -- so each room's pair, as the log is replayed, is what the adds named so far make of it
-    replayed : Holds (onlyFindsAndAdds ops) → (l : List ℕ) (r : Replay (S .Total)) → Enough (r .now) → (k : ℕ)
-        → foldl (λ b i. replayOne S b (getElem? ops i)) r l .now .pairs k ≡ foldl (λ z i. add-to k z (getElem? ops i)) (r .now .pairs k) l
+    abbrev replayFrom : Replay (S .Total) → List ℕ → Replay (S .Total)
+    replayFrom = foldl (λ r i. replayOne S r (getElem? ops i))
+
+    abbrev addFrom : ℕ → Option (S .Total) → List ℕ → Option (S .Total)
+    addFrom k = foldl (λ z i. add-to k z (getElem? ops i))
+
+    replayed : Holds (onlyFindsAndAdds ops) → (l : List ℕ) (r : Replay (S .Total)) → Enough (r .now)
+        → (k : ℕ) → replayFrom r l .now .pairs k ≡ addFrom k (r .now .pairs k) l
     unfolding foldl replayOne noted performed add-to add-one-to addsTo
     replayed only [] r en k = refl
     replayed only (i ∷ l) r en k = go (getElem? ops i) refl (λ r′ en′. replayed only l r′ en′ k)
       where
         go : (x : Option (Operation (S .Total))) → getElem? ops i ≡ x
-            → ((r′ : Replay (S .Total)) → Enough (r′ .now)
-            → foldl (λ b i. replayOne S b (getElem? ops i)) r′ l .now .pairs k ≡ foldl (λ z i. add-to k z (getElem? ops i)) (r′ .now .pairs k) l)
-            → foldl (λ b i. replayOne S b (getElem? ops i)) (replayOne S r x) l .now .pairs k ≡ foldl (λ z i. add-to k z (getElem? ops i)) (add-to k (r .now .pairs k) x) l
+            → ((r′ : Replay (S .Total)) → Enough (r′ .now) → replayFrom r′ l .now .pairs k ≡ addFrom k (r′ .now .pairs k) l)
+            → replayFrom (replayOne S r x) l .now .pairs k ≡ addFrom k (add-to k (r .now .pairs k) x) l
         go none e ih = ih r en
         go (some o) e ih =
-            let p : Performs (o .kind) (o .key) (o .amount) (r .now) (performed S (r .now) o) =
-            performs (o .kind) (o .key) (o .amount) (r .now) (r .now .pairs (o .key)) refl (only-at ops i only e) (added-at ops i e) en in
-            ih (noted S r (performed S (r .now) o)) (p .enough)
-            ∙ ap (λ (z : Option (S .Total)). foldl (λ z i. add-to k z (getElem? ops i)) z l) (p .pairs k)
+            let m = r .now in
+            let p = performs (o .kind) (o .key) (o .amount) m (m .pairs (o .key)) refl (only-at ops i only e) (added-at ops i e) en in
+            ih (noted S r (performed S m o)) (p .enough) ∙ ap (λ (z : Option (S .Total)). addFrom k z l) (p .pairs k)
 
   -- where every operation has finished, the log names each of them once
   each-once : (start : List (Cell (S .Total))) (ops : List (Operation (S .Total))) (m : Machine (S .Total)) → Linearizable S start ops m
       → doneCount (m .rows) ≡ length ops
       → (i : ℕ) → occurs i (m .log) ≡ occurs i (indices (length ops))
   each-once start ops m lin done i =
-      lin .once i ∙ ap (λ (z : Bool). cond z 1 0) (all-done (m .rows) (done ∙ ap length (sym (lin .operations)) ∙ length-map (m .rows) (λ r. r .operation)) i ∙ there)
-      ∙ sym (occurs-indices ops i)
+      lin .once i ∙ ap (λ (z : Bool). cond z 1 0) (all-done (m .rows) as-many i ∙ there) ∙ sym (occurs-indices ops i)
     where
+      operationOf : Row (S .Total) → Operation (S .Total)
+      operationOf r = r .operation
+
+      as-many : doneCount (m .rows) ≡ length (m .rows)
+      as-many = done ∙ ap length (sym (lin .operations)) ∙ length-map (m .rows) operationOf
+
       there : isSome (getElem? (m .rows) i) ≡ isSome (getElem? ops i)
-      there = sym (some-map (λ (r : Row (S .Total)). r .operation) (m .rows) i) ∙ ap (λ (l : List (Operation (S .Total))). isSome (getElem? l i)) (lin .operations)
+      there = sym (some-map operationOf (m .rows) i) ∙ ap (λ (l : List (Operation (S .Total))). isSome (getElem? l i)) (lin .operations)
 
   pub totals-rule : (start : List (Cell (S .Total))) → Accepted S start → (ops : List (Operation (S .Total))) (schedule : List ℕ)
       → TotalsRule S start ops schedule
   unfolding TotalsRule EveryOperationFinishes CellsSuffice expected replay mapOf Enough isPresent add-to
   totals-rule start ok ops schedule only finish suffice k =
       lin .pairs k
-      ∙ replayed ops only (run S start ops schedule .log) (record { now = mapOf start; answers = [] }) suffice k
-      ∙ fold-any-order (λ z i. add-to k z (getElem? ops i)) (λ z i j. add-comm k z (getElem? ops i) (getElem? ops j))
-      (run S start ops schedule .log) (indices (length ops)) (lookup k start) (each-once start ops (run S start ops schedule) lin finish)
+      ∙ replayed ops only log (record { now = mapOf start; answers = [] }) suffice k
+      ∙ fold-any-order (λ z i. add-to k z (getElem? ops i)) (λ z i j. add-comm k z (getElem? ops i) (getElem? ops j)) log (indices (length ops))
+      (lookup k start) (each-once start ops (run S start ops schedule) lin finish)
       ∙ fold-indices (add-to k) (lookup k start) ops
       ∙ add-all k ops (lookup k start)
     where
       lin : Linearizable S start ops (run S start ops schedule)
       lin = linearizable S L start ops ok schedule
+
+      log : List ℕ
+      log = run S start ops schedule .log
