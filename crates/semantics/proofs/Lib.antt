@@ -10,5 +10,6 @@ pub mod TotalsHold
 pub mod Narrow
 pub mod Words
 pub mod Start
-pub mod Cases
+pub mod RunPacks
 pub mod WordsHold
+pub mod Cases
