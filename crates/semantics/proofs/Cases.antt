@@ -18,7 +18,23 @@ use Rattle.semantics.specs.Cases.{Job, resultOf, holds, allHold, leftBy,
 
 -- every definition that a run computes with: to unfold `computed` is to unfold them all
 unfoldable pub computed : Unit {0}
-unfolding resultOf holds allHold leftBy sameList cases inFull longer Totals.heldAt Totals.plusAt Totals.narrow Totals.sameTotal Cells.codeOf Cells.totalOf Cells.keyed Basics.orElse Cells.lookup Cells.isEmpty Cells.usedCells Words.isPowerFrom Words.sizeAllowed Words.homeIn Words.isLiveKey Words.tombstoneWord Words.cellAllowed Words.decode Words.encode Words.kindOf Words.decodeOperation Words.takesAmount Words.isKind Words.operationAllowed Words.carried Words.answerWord Words.roomHome Words.roomSum Step.sight Step.makes Step.fresh Step.after Step.countLost Step.logged Step.idled Basics.foldl Step.answered Basics.isSome Step.doneCount Step.effect Step.readOwn Step.read Step.exhausted Step.bounded Step.heldCell Step.fateCell Step.newCell Step.swapAnswer Step.sameCell Step.swapped Step.step Step.passed Step.placeOf Step.taken Step.act Step.entered Step.entry Step.freshRow Step.begin Step.run TotalsRule.isAdd TotalsRule.isFindOrAdd TotalsRule.onlyFindsAndAdds TotalsRule.isPresent TotalsRule.addsTo TotalsRule.isAdded TotalsRule.countsAt TotalsRule.roomsToMake TotalsRule.CellsSuffice Basics.firstFrom Basics.firstBelow Basics.someBelow Refusals.firstMet Refusals.atFirst Refusals.isRepeated Refusals.isUnreachable Refusals.sizeNotAllowed Refusals.tooMany Refusals.tooShort Refusals.badCell Refusals.badOperation Refusals.badEntry Refusals.repeatedKey Refusals.unreachableKey Refusals.runConditions Refusals.runRefusal Run.over Run.machine Run.answerOf Run.outcomeOf Run.acceptedResult Run.refusedResult Run.callOf Run.resultIf Run.runResult
+unfolding
+    resultOf holds allHold leftBy sameList cases inFull longer
+    Totals.heldAt Totals.plusAt Totals.narrow Totals.sameTotal
+    Cells.codeOf Cells.totalOf Cells.keyed Cells.lookup Cells.isEmpty Cells.usedCells
+    Basics.orElse Basics.foldl Basics.isSome Basics.firstFrom Basics.firstBelow Basics.someBelow
+    Words.isPowerFrom Words.sizeAllowed Words.homeIn Words.isLiveKey Words.tombstoneWord Words.cellAllowed Words.decode Words.encode
+    Words.kindOf Words.decodeOperation Words.takesAmount Words.isKind Words.operationAllowed Words.carried Words.answerWord
+    Words.roomHome Words.roomSum
+    Step.sight Step.makes Step.fresh Step.after Step.countLost Step.logged Step.idled Step.answered Step.doneCount Step.effect
+    Step.readOwn Step.read Step.exhausted Step.bounded Step.heldCell Step.fateCell Step.newCell Step.swapAnswer Step.sameCell
+    Step.swapped Step.step Step.passed Step.placeOf Step.taken Step.act Step.entered Step.entry Step.freshRow Step.begin Step.run
+    TotalsRule.isAdd TotalsRule.isFindOrAdd TotalsRule.onlyFindsAndAdds TotalsRule.isPresent TotalsRule.addsTo TotalsRule.isAdded
+    TotalsRule.countsAt TotalsRule.roomsToMake TotalsRule.CellsSuffice
+    Refusals.firstMet Refusals.atFirst Refusals.isRepeated Refusals.isUnreachable Refusals.sizeNotAllowed Refusals.tooMany
+    Refusals.tooShort Refusals.badCell Refusals.badOperation Refusals.badEntry Refusals.repeatedKey Refusals.unreachableKey
+    Refusals.runConditions Refusals.runRefusal
+    Run.over Run.machine Run.answerOf Run.outcomeOf Run.acceptedResult Run.refusedResult Run.callOf Run.resultIf Run.runResult
 computed = tt
 
 pub covered : T (allHold cases)
