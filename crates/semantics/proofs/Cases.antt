@@ -14,15 +14,15 @@ use Rattle.semantics.specs.TotalsRule as TotalsRule
 use Rattle.semantics.specs.Refusals as Refusals
 use Rattle.semantics.specs.Run as Run
 use Rattle.semantics.proofs.WordsHold.{totals-words}
-use Rattle.semantics.specs.Cases.{Job, resultOf, holds, allHold, leftBy, sameList, cases, inFull, longer, Meets}
+use Rattle.semantics.specs.Cases.{Job, resultOf, holds, leftBy, sameList, cases, inFull, longer, Meets}
 
 -- every definition that a run computes with: to unfold `computed` is to unfold them all
 unfoldable pub computed : Unit {0}
 unfolding
-    resultOf holds allHold leftBy sameList cases inFull longer
+    resultOf holds leftBy sameList cases inFull longer
     Totals.heldAt Totals.plusAt Totals.narrow Totals.sameTotal
     Cells.codeOf Cells.totalOf Cells.keyed Cells.lookup Cells.isEmpty Cells.usedCells
-    Basics.orElse Basics.foldl Basics.isSome Basics.firstFrom Basics.firstBelow Basics.someBelow
+    Basics.orElse Basics.all Basics.any Basics.count Basics.foldl Basics.isSome Basics.firstFrom Basics.firstBelow Basics.someBelow
     Words.isPowerFrom Words.sizeAllowed Words.homeIn Words.isLiveKey Words.tombstoneWord Words.cellAllowed Words.decode Words.encode
     Words.kindOf Words.decodeOperation Words.takesAmount Words.isKind Words.operationAllowed Words.carried Words.answerWord
     Words.roomHome Words.roomSum
@@ -37,7 +37,7 @@ unfolding
     Run.over Run.machine Run.answerOf Run.outcomeOf Run.acceptedResult Run.refusedResult Run.callOf Run.resultIf Run.runResult
 computed = tt
 
-pub covered : T (allHold cases)
+pub covered : T (Basics.all holds cases)
 unfolding computed
 covered = tt
 

@@ -1,5 +1,6 @@
-pub mod Lists
 pub mod Tests
+pub mod Lists
+pub mod Counts
 pub mod Laws
 pub mod Table
 pub mod Steps

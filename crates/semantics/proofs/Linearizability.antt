@@ -1,7 +1,7 @@
 -- Demand 2: any run of accepted cells, after any number of entries, is the one-at-a-time map doing the logged operations in log order.
 -- Assumes nothing.
 use mathlib.Core.Path.{_≡_, refl, ap, ap₂, sym, _∙_, subst, subst₃}
-use Prim.Native.Nat.{ℕ, zero, suc, _<_}
+use Prim.Native.Nat.{ℕ, suc, _+_, _<_}
 use mathlib.Core.Bool.{Bool, true, false, cond, true≢false}
 use mathlib.Core.List.{List, [], _∷_, _++_, map}
 use mathlib.Core.Option.{Option, none, some}
@@ -12,13 +12,14 @@ use borrow.Author.Tests.{eqb-true, eqb-false}
 use lib.Dec.{eqb}
 use lib.ListN.{length, getD, set, getElem?, length-append}
 use lib.Seq.{set-getD}
-use Rattle.semantics.specs.Basics.{foldl, isSome, occurs}
+use Rattle.semantics.specs.Basics.{foldl, isSome, occurs, count}
 use Rattle.semantics.specs.Cells.{Setting, Cell, empty, Operation, Answer}
 use Rattle.semantics.specs.Step.{Turn, Pending, reading, holding, State, pending, finished, Row, Machine, Stepped, fresh, after, logged, idled, answered, answerIn, finishedIn, doneCount}
 use Rattle.semantics.specs.Step.{step, passed, placeOf, taken, entry, freshRow, begin, run}
 use Rattle.semantics.specs.Map.{Map, Replay, mapOf, performed, noted, replayOne, replay, Linearizable}
 use Rattle.semantics.proofs.Laws.{Lawful, Accepted}
-use Rattle.semantics.proofs.Lists.{none-some, elem-set-same, elem-set-other, elem-set-all, elem-map, elem-map-all, map-set-elem, map-snoc, foldl-snoc, occurs-snoc, map-on, map-map, map-id}
+use Rattle.semantics.proofs.Counts.{count-set, count-snoc}
+use Rattle.semantics.proofs.Lists.{elem-set-same, elem-set-other, elem-set-all, elem-getD, elem-map, elem-map-all, map-set-elem, map-snoc, foldl-snoc, map-on, map-map, map-id}
 use Rattle.semantics.proofs.Table.{Agrees, Probed, own-place, located-lookup, size-pos, start-agrees}
 use Rattle.semantics.proofs.Entries.{by-entry, by-run}
 use Rattle.semantics.proofs.Steps.{Standing, Advance, goes-on, completes, advance}
@@ -37,24 +38,14 @@ module _ {T : Type 0} where
       go none e = refl
       go (some r) e = h i r e
 
-  -- the count of finished rows, after one of them is stored anew
-  count-same : (rows : List (Row T)) (i : ℕ) {r : Row T} (r′ : Row T) → getElem? rows i ≡ some r → done (r′ .state) ≡ done (r .state)
-      → doneCount (set rows i r′) ≡ doneCount rows
+  -- the count of finished rows, after one that has not finished is stored anew
+  count-stored : (rows : List (Row T)) (i : ℕ) {r : Row T} (r′ : Row T) → getElem? rows i ≡ some r → done (r .state) ≡ false
+      → doneCount (set rows i r′) ≡ doneCount rows + cond (done (r′ .state)) 1 0
   unfolding doneCount
-  count-same [] i r′ e h = refl
-  count-same (x ∷ rows) zero {r} r′ e h = let q : r ≡ x = cc in rw (h, q)
-  count-same (x ∷ rows) (suc i) r′ e h = rw (count-same rows i r′ e h)
-
-  count-more : (rows : List (Row T)) (i : ℕ) {r : Row T} (r′ : Row T) → getElem? rows i ≡ some r → done (r .state) ≡ false → done (r′ .state) ≡ true
-      → doneCount (set rows i r′) ≡ suc (doneCount rows)
-  unfolding doneCount
-  count-more [] i r′ e h h′ = absurd (none-some e)
-  count-more (x ∷ rows) zero {r} r′ e h h′ = let q : x ≡ r = cc in rw (h′, q, h)
-  count-more (x ∷ rows) (suc i) r′ e h h′ = rw (count-more rows i r′ e h h′) (go (done (x .state)))
-    where
-      go : (z : Bool) → cond z (suc (suc (doneCount rows))) (suc (doneCount rows)) ≡ suc (cond z (suc (doneCount rows)) (doneCount rows))
-      go true = refl
-      go false = refl
+  count-stored rows i {r} r′ e h =
+      let (b, q) = elem-getD rows i r e in
+      let not-yet : done (getD rows i r .state) ≡ false = ap (λ (x : Row T). done (x .state)) q ∙ h in
+      omega (arith, rw not-yet at (count-set (λ (x : Row T). done (x .state)) rows i r′ r b))
 
 module _ (S : Setting) (L : Lawful S) (start : List (Cell (S .Total))) (ops : List (Operation (S .Total))) where
   abbrev operationOf : Row (S .Total) → Operation (S .Total)
@@ -81,7 +72,7 @@ module _ (S : Setting) (L : Lawful S) (start : List (Cell (S .Total))) (ops : Li
 
   -- at the outset
   none-done : (l : List (Operation (S .Total))) → doneCount (map (freshRow S) l) ≡ 0
-  unfolding doneCount freshRow fresh answered isSome
+  unfolding doneCount count freshRow fresh answered isSome
   none-done [] = refl
   none-done (o ∷ l) = none-done l
 
@@ -94,7 +85,7 @@ module _ (S : Setting) (L : Lawful S) (start : List (Cell (S .Total))) (ops : Li
   each-fresh P h = elem-map-all (freshRow S) P ops (λ i o e. h o)
 
   holds-first : Accepted S start → HoldsOf (begin S start ops)
-  unfolding HoldsOf begin replay foldl occurs freshRow fresh finishedIn answered isSome
+  unfolding HoldsOf begin replay foldl occurs count freshRow fresh finishedIn answered isSome
   holds-first ok =
       record {
         agrees = start-agrees S L start ok;
@@ -166,7 +157,7 @@ module _ (S : Setting) (L : Lawful S) (start : List (Cell (S .Total))) (ops : Li
           agrees = H .agrees;
           answers = answers-kept (pending s);
           once = λ j. H .once j ∙ ap (λ (z : Bool). cond z 1 0) (sym (same j));
-          counted = count-same rows i (inState (pending s)) at (sym open-row) ∙ H .counted;
+          counted = count-stored rows i (inState (pending s)) at open-row ∙ omega (arith, H .counted);
           operations = operations-kept (pending s);
           standing = standing-set cells (pending s) (λ k p q. q) st;
         }
@@ -201,13 +192,13 @@ module _ (S : Setting) (L : Lawful S) (start : List (Cell (S .Total))) (ops : Li
         → Agrees S cells′ (performed S now (r .operation) .after)
         → ((k p : ℕ) → Probed S cells k p → Probed S cells′ k p)
         → Holds cells′ (rows′ (finished a)) (log ++ (i ∷ []))
-    unfolding noted StandsIn answered isSome
+    unfolding noted StandsIn answered isSome occurs
     holds-more cells′ a e agrees keeps =
         record {
           agrees = subst (λ (b : Replay (S .Total)). Agrees S cells′ (b .now)) (sym replay-more) agrees;
           answers = answers-more a e;
-          once = λ j. occurs-snoc j i log ∙ once′ j (eqb j i) refl;
-          counted = count-more rows i (inState (finished a)) at open-row refl ∙ ap suc (H .counted) ∙ one-more;
+          once = λ j. count-snoc (eqb j) log i ∙ once′ j (eqb j i) refl;
+          counted = count-stored rows i (inState (finished a)) at open-row ∙ rw (length-append log (i ∷ [])) (omega (arith, H .counted));
           operations = operations-kept (finished a);
           standing = standing-set cells′ (finished a) keeps tt;
         }
@@ -215,9 +206,6 @@ module _ (S : Setting) (L : Lawful S) (start : List (Cell (S .Total))) (ops : Li
         once′ : (j : ℕ) (z : Bool) → eqb j i ≡ z → cond z (suc (occurs j log)) (occurs j log) ≡ cond (finishedIn (rows′ (finished a)) j) 1 0
         once′ j true q = rw (eqb-true j i q, not-logged, finished-here (finished a))
         once′ j false q = H .once j ∙ ap (λ (z : Bool). cond z 1 0) (sym (finished-other (finished a) j (eqb-false j i q)))
-
-        one-more : suc (length log) ≡ length (log ++ (i ∷ []))
-        one-more = rw (length-append log (i ∷ [])) (omega arith)
 
     -- so a step keeps all of it, whatever it comes to; and it leaves the cells as they were, unless it finishes the row
     module _ (p cell : ℕ) (q : Stepped (S .Total)) where

@@ -1,15 +1,16 @@
--- Lists: an element after a store, a last element more, a fold, and how often a number occurs.
+-- Lists: an element after a store, maps, folds and tests.
 -- Assumes nothing.
 use mathlib.Core.Path.{_≡_, refl, ap, ap₂, _∙_, subst}
 use Prim.Native.Nat.{ℕ, zero, suc, _<_}
-use mathlib.Core.Bool.{Bool, true, false, cond}
+use mathlib.Core.Bool.{Bool, true, false, cond, _||_, or-true}
 use mathlib.Core.List.{List, [], _∷_, _++_, map}
 use mathlib.Core.Option.{none, some}
 use native.Mathlib.Omega.{arith}
 use borrow.Author.Tests.{eq-eqb}
-use lib.Dec.{eqb}
+use lib.Dec.{T, eqb}
 use lib.ListN.{length, getD, set, getElem?}
-use Rattle.semantics.specs.Basics.{foldl, occurs}
+use Rattle.semantics.specs.Basics.{foldl, all, any, count, occurs}
+use Rattle.semantics.proofs.Tests.{both}
 
 pub none-some : {A : Type 0} {a : A} → none ≡ some a → ⊥
 none-some e = let z : _≡_ {A = ℕ} 0 1 = cc in omega arith
@@ -76,21 +77,9 @@ unfolding foldl
 foldl-snoc f b [] a = refl
 foldl-snoc f b (x ∷ l) a = foldl-snoc f (f b x) l a
 
--- counting twice, in either order
-pub cond-swap : (a b : Bool) (n : ℕ) → cond a (suc (cond b (suc n) n)) (cond b (suc n) n) ≡ cond b (suc (cond a (suc n) n)) (cond a (suc n) n)
-cond-swap true true n = refl
-cond-swap true false n = refl
-cond-swap false true n = refl
-cond-swap false false n = refl
-
-pub occurs-snoc : (i j : ℕ) (l : List ℕ) → occurs i (l ++ (j ∷ [])) ≡ cond (eqb i j) (suc (occurs i l)) (occurs i l)
-unfolding occurs
-occurs-snoc i j [] = refl
-occurs-snoc i j (x ∷ l) = rw (occurs-snoc i j l) (cond-swap (eqb i x) (eqb i j) (occurs i l))
-
 -- what a list maps to depends on the function only at the numbers that occur in it
 pub map-on : {B : Type 0} (f g : ℕ → B) (l : List ℕ) → ((i : ℕ) → 0 < occurs i l → f i ≡ g i) → map f l ≡ map g l
-unfolding occurs
+unfolding occurs count
 map-on f g [] h = refl
 map-on {B} f g (x ∷ l) h = ap₂ (λ (b : B) (r : List B). b ∷ r) (h x (rw (eq-eqb x x refl) (omega arith))) (map-on f g l (λ i p. h i (later i (eqb i x) p)))
   where
@@ -106,3 +95,16 @@ set-everywhere P d (x ∷ l) zero a p h zero = p
 set-everywhere P d (x ∷ l) zero a p h (suc i) = h (suc i)
 set-everywhere P d (x ∷ l) (suc j) a p h zero = h 0
 set-everywhere P d (x ∷ l) (suc j) a p h (suc i) = set-everywhere P d l j a p (λ n. h (suc n)) i
+
+-- an element passes a test that all pass, and one that passes makes some pass
+pub all-at : {A : Type 0} (test : A → Bool) (l : List A) (i : ℕ) {a : A} → T (all test l) → getElem? l i ≡ some a → T (test a)
+unfolding all
+all-at test [] i h e = absurd (none-some e)
+all-at {A} test (x ∷ l) zero {a} h e = let q : x ≡ a = cc in subst (λ (y : A). T (test y)) q (both (test x) (all test l) h .0)
+all-at test (x ∷ l) (suc i) h e = all-at test l i (both (test x) (all test l) h .1) e
+
+pub any-at : {A : Type 0} (test : A → Bool) (l : List A) (i : ℕ) {a : A} → getElem? l i ≡ some a → test a ≡ true → any test l ≡ true
+unfolding any
+any-at test [] i e h = absurd (none-some e)
+any-at {A} test (x ∷ l) zero {a} e h = let q : a ≡ x = cc in subst (λ (y : A). (test y || any test l) ≡ true) q (rw h)
+any-at test (x ∷ l) (suc i) e h = rw (any-at test l i e h) (or-true (test x))

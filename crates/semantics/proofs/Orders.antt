@@ -10,8 +10,8 @@ use native.Mathlib.Nat.{suc-inj}
 use borrow.Author.Tests.{eqb-true, eq-eqb}
 use lib.Dec.{eqb, eqb·suc-suc, eqb·zero-suc, eqb·suc-zero}
 use lib.ListN.{length, getElem?}
-use Rattle.semantics.specs.Basics.{foldl, isSome, occurs}
-use Rattle.semantics.proofs.Lists.{cond-swap}
+use Rattle.semantics.specs.Basics.{foldl, isSome, occurs, count}
+use Rattle.semantics.proofs.Counts.{cond-swap}
 
 -- a list without the first x in it
 unfoldable without : ℕ → List ℕ → List ℕ
@@ -19,11 +19,11 @@ without x [] = []
 without x (y ∷ l) = cond (eqb x y) l (y ∷ without x l)
 
 occurs-head : (x : ℕ) (l : List ℕ) → occurs x (x ∷ l) ≡ suc (occurs x l)
-unfolding occurs
+unfolding occurs count
 occurs-head x l = rw (eq-eqb x x refl)
 
 occurs-without : (x : ℕ) (l : List ℕ) → 0 < occurs x l → (i : ℕ) → occurs i l ≡ occurs i (x ∷ without x l)
-unfolding occurs without
+unfolding occurs count without
 occurs-without x [] h i = absurd (omega arith)
 occurs-without x (y ∷ l) h i = go (eqb x y) refl (λ p. occurs-without x l p i)
   where
@@ -41,7 +41,7 @@ none-occurs (x ∷ l) h = let e : suc (occurs x l) ≡ 0 = sym (occurs-head x l)
 
 module _ {B : Type 0} (f : B → ℕ → B) (commute : (b : B) (i j : ℕ) → f (f b i) j ≡ f (f b j) i) where
   fold-without : (x : ℕ) (l : List ℕ) (b : B) → 0 < occurs x l → foldl f b l ≡ foldl f b (x ∷ without x l)
-  unfolding foldl occurs without
+  unfolding foldl occurs count without
   fold-without x [] b h = absurd (omega arith)
   fold-without x (y ∷ l) b h = go (eqb x y) refl (fold-without x l (f b y))
     where
@@ -53,7 +53,7 @@ module _ {B : Type 0} (f : B → ℕ → B) (commute : (b : B) (i j : ℕ) → f
           ih p ∙ ap (λ (c : B). foldl f c (without x l)) (commute b y x)
 
   pub fold-any-order : (l l′ : List ℕ) (b : B) → ((i : ℕ) → occurs i l ≡ occurs i l′) → foldl f b l ≡ foldl f b l′
-  unfolding foldl occurs
+  unfolding foldl occurs count
   fold-any-order l [] b h = rw (none-occurs l h)
   fold-any-order l (x ∷ l′) b h =
       let there : 0 < occurs x l = let e : occurs x l ≡ suc (occurs x l′) = h x ∙ occurs-head x l′ in omega arith in
@@ -69,18 +69,18 @@ indices zero = []
 indices (suc n) = 0 ∷ map suc (indices n)
 
 occurs-later : (i : ℕ) (l : List ℕ) → occurs (suc i) (map suc l) ≡ occurs i l
-unfolding occurs
+unfolding occurs count
 occurs-later i [] = refl
 occurs-later i (x ∷ l) = rw (eqb·suc-suc i x, occurs-later i l)
 
 occurs-none : (l : List ℕ) → occurs 0 (map suc l) ≡ 0
-unfolding occurs
+unfolding occurs count
 occurs-none [] = refl
 occurs-none (x ∷ l) = rw (eqb·zero-suc x) (occurs-none l)
 
 -- each index of a list occurs once among them
 pub occurs-indices : {A : Type 0} (l : List A) (i : ℕ) → occurs i (indices (length l)) ≡ cond (isSome (getElem? l i)) 1 0
-unfolding occurs indices isSome
+unfolding occurs count indices isSome
 occurs-indices [] i = refl
 occurs-indices (a ∷ l) zero = ap suc (occurs-none (indices (length l)))
 occurs-indices (a ∷ l) (suc i) = rw (eqb·suc-zero i) (occurs-later i (indices (length l)) ∙ occurs-indices l i)

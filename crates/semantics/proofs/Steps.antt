@@ -21,7 +21,7 @@ use Rattle.semantics.specs.Map.{Map, Done, withPair, unchanged, replaced
 use Rattle.semantics.proofs.Laws.{Lawful}
 use Rattle.semantics.proofs.Lists.{none-some}
 use Rattle.semantics.proofs.Tests.{true-T, same-cell-sound}
-use Rattle.semantics.proofs.Table.{keyed-live, keyed-other, Follows, used-fill, used-keep, used-below, Located, Agrees, Probed}
+use Rattle.semantics.proofs.Table.{keyed-live, keyed-other, Follows, used-set, used-below, Located, Agrees, Probed}
 use Rattle.semantics.proofs.Table.{own-pair, own-alone, missing-alone, free-lacks, passed-lacks, place-below, all-used, probed-set, has-set, lacks-set, agrees-set}
 
 -- what an operation of key k sees in a cell, and what it then knows of the cell
@@ -234,7 +234,7 @@ module _ (S : Setting) (L : Lawful S) where
       fill e q =
           stores y inserted (some (o .amount)) (suc (m .used)) f
           (stands y (o .amount) f (keyed-live k (o .amount)) (λ j ne. missing-alone S (a .located k) (missing bare (rw e)) j))
-          (used-fill cells at y (omega (arith, at-below, a .long)) bare refl ∙ ap suc (a .used))
+          (used-set cells at y (omega (arith, at-below, a .long)) refl ∙ rw bare (ap suc (a .used)))
           (stores-pair bare (rw e) q)
         where
           y : Cell (S .Total)
@@ -265,7 +265,7 @@ module _ (S : Setting) (L : Lawful S) where
           follows y g l = subst (λ (c : Cell (S .Total)). Follows k c y) (sym e) (follows-own k t y g l)
 
           used : (y : Cell (S .Total)) → isEmpty y ≡ false → usedCells (set cells at y) ≡ m .used
-          used y l = used-keep cells at y (rw e) l ∙ a .used
+          used y l = used-set cells at y (omega (arith, at-below, a .long)) l ∙ rw e (a .used)
 
           go : (f : Fate (S .Total)) → performed S m o ≡ by-fate k m b f → Comes (fateCell S k t f) (finishes b)
           go stays r = subst (λ (c : Cell (S .Total)). Comes c (finishes b)) e (finishes-at-read p at b r)

@@ -2,11 +2,11 @@
 -- Assumes nothing.
 use mathlib.Core.Path.{_≡_, refl, ap, ap₂, sym, _∙_, subst}
 use Prim.Native.Nat.{ℕ, zero, suc, _+_, _-_, _%_, _≤_, _<_}
-use mathlib.Core.Bool.{Bool, true, false, cond, true≢false}
+use mathlib.Core.Bool.{Bool, true, false, cond, not, true≢false}
 use mathlib.Core.List.{List, [], _∷_}
 use mathlib.Core.Option.{Option, none, some}
 use native.Mathlib.Omega.{arith}
-use native.Mathlib.Nat.{mod-lt, mod-eq-of-lt, add-mod-mod, add-mod-right, not-suc-le-zero, le-of-suc-le-suc}
+use native.Mathlib.Nat.{mod-lt, mod-eq-of-lt, add-mod-mod, add-mod-right}
 use native.Mathlib.Decide.{ℕ-discrete, decLt}
 use borrow.Author.Tests.{eqb-true, eqb-false, eq-eqb, ne-eqb}
 use lib.Dec.{eqb}
@@ -18,6 +18,7 @@ use Rattle.semantics.specs.Step.{placeOf}
 use Rattle.semantics.specs.Map.{Map, withPair, mapOf}
 use Rattle.semantics.proofs.Laws.{Lawful, Accepted}
 use Rattle.semantics.proofs.Lists.{none-some}
+use Rattle.semantics.proofs.Counts.{count-set, count-below, count-full}
 
 -- a key is keyed by its own live cell and by no other
 pub keyed-live : {T : Type 0} (k : ℕ) (t : T) → keyed k (live k t) ≡ some t
@@ -34,50 +35,25 @@ pub record Follows {T : Type 0} (k : ℕ) (x y : Cell T) : Type 0 where
   pub owned : keyed k x ≡ none → isEmpty x ≡ false → ⊥
   pub filled : isEmpty y ≡ false
 
-module _ {T : Type 0} where
-  -- the number of cells not empty after a store over an empty cell, and over another
-  pub used-fill : (cells : List (Cell T)) (i : ℕ) (y : Cell T) → i < length cells → isEmpty (getD cells i empty) ≡ true → isEmpty y ≡ false
-      → usedCells (set cells i y) ≡ suc (usedCells cells)
+-- the number of cells not empty after a store, and where one is empty or none is
+module _ {T : Type 0} (cells : List (Cell T)) where
+  pub used-set : (i : ℕ) (y : Cell T) → i < length cells → isEmpty y ≡ false
+      → usedCells (set cells i y) ≡ cond (isEmpty (getD cells i empty)) (suc (usedCells cells)) (usedCells cells)
   unfolding usedCells
-  used-fill [] i y h e f = absurd (not-suc-le-zero h)
-  used-fill (x ∷ cells) zero y h e f = rw (e, f)
-  used-fill (x ∷ cells) (suc i) y h e f = rw (used-fill cells i y (le-of-suc-le-suc h) e f) (go (isEmpty x))
+  used-set i y h f = go (isEmpty (getD cells i empty)) (rw f at (count-set (λ x. not (isEmpty x)) cells i y empty h))
     where
-      go : (z : Bool) → cond z (suc (usedCells cells)) (suc (suc (usedCells cells))) ≡ suc (cond z (usedCells cells) (suc (usedCells cells)))
-      go true = refl
-      go false = refl
+      go : (z : Bool) → usedCells (set cells i y) + cond (not z) 1 0 ≡ usedCells cells + 1
+          → usedCells (set cells i y) ≡ cond z (suc (usedCells cells)) (usedCells cells)
+      go true e = omega arith
+      go false e = omega arith
 
-  pub used-keep : (cells : List (Cell T)) (i : ℕ) (y : Cell T) → isEmpty (getD cells i empty) ≡ false → isEmpty y ≡ false
-      → usedCells (set cells i y) ≡ usedCells cells
+  pub used-below : (i : ℕ) → i < length cells → isEmpty (getD cells i empty) ≡ true → usedCells cells < length cells
   unfolding usedCells
-  used-keep [] i y e f = refl
-  used-keep (x ∷ cells) zero y e f = rw (e, f)
-  used-keep (x ∷ cells) (suc i) y e f = rw (used-keep cells i y e f)
+  used-below i h e = count-below (λ x. not (isEmpty x)) cells i empty h (ap not e)
 
-  -- with an empty cell not all are used; with none all are
-  pub used-le : (cells : List (Cell T)) → usedCells cells ≤ length cells
+  pub used-all : ((i : ℕ) → i < length cells → isEmpty (getD cells i empty) ≡ false) → usedCells cells ≡ length cells
   unfolding usedCells
-  used-le [] = omega arith
-  used-le (x ∷ cells) = go (isEmpty x) (used-le cells)
-    where
-      go : (z : Bool) → usedCells cells ≤ length cells → cond z (usedCells cells) (suc (usedCells cells)) ≤ suc (length cells)
-      go true h = omega arith
-      go false h = omega arith
-
-  pub used-below : (cells : List (Cell T)) (i : ℕ) → i < length cells → isEmpty (getD cells i empty) ≡ true → usedCells cells < length cells
-  unfolding usedCells
-  used-below [] i h e = absurd (not-suc-le-zero h)
-  used-below (x ∷ cells) zero h e = rw e (let l : usedCells cells ≤ length cells = used-le cells in omega arith)
-  used-below (x ∷ cells) (suc i) h e = go (isEmpty x) (used-below cells i (le-of-suc-le-suc h) e)
-    where
-      go : (z : Bool) → usedCells cells < length cells → cond z (usedCells cells) (suc (usedCells cells)) < suc (length cells)
-      go true l = omega arith
-      go false l = omega arith
-
-  pub used-all : (cells : List (Cell T)) → ((i : ℕ) → i < length cells → isEmpty (getD cells i empty) ≡ false) → usedCells cells ≡ length cells
-  unfolding usedCells
-  used-all [] h = refl
-  used-all (x ∷ cells) h = rw (h 0 (omega arith), used-all cells (λ i l. h (suc i) (omega arith)))
+  used-all h = count-full (λ x. not (isEmpty x)) cells empty (λ i b. ap not (h i b))
 
 -- what a lookup finds: the key is in no cell, or in the cell whose total it gives
 pub data Looked {T : Type 0} (k : ℕ) (cells : List (Cell T)) : Option T → Type 0 where

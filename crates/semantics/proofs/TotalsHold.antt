@@ -1,26 +1,25 @@
 -- Demand 3: with only finds and adds, all finished and cells enough, each room ends with its expected total whatever the schedule was.
 -- It follows from demand 2: the log names each operation once, the sum does not depend on the order, and no add finds the table full.
 -- Assumes nothing.
-use mathlib.Core.Path.{_≡_, refl, ap, ap₂, sym, _∙_, subst}
+use mathlib.Core.Path.{_≡_, refl, ap, ap₂, sym, _∙_}
 use Prim.Native.Nat.{ℕ, zero, suc, _+_, _≤_}
-use mathlib.Core.Bool.{Bool, true, false, cond, _&&_, _||_, not, and-false, or-true}
+use mathlib.Core.Bool.{Bool, true, false, cond, _&&_, _||_, not, and-false}
 use mathlib.Core.List.{List, [], _∷_, map}
 use mathlib.Core.Option.{Option, none, some}
 use native.Mathlib.Omega.{arith}
-use native.Mathlib.Nat.{suc-inj}
 use native.Mathlib.Decide.{ℕ-discrete}
 use borrow.Author.Tests.{eqb-true, eq-eqb, ne-eqb}
 use lib.Dec.{T as Holds, eqb}
 use lib.ListN.{length, getElem?, length-map}
-use Rattle.semantics.specs.Basics.{foldl, isSome, occurs}
+use Rattle.semantics.specs.Basics.{foldl, isSome, occurs, any}
 use Rattle.semantics.specs.Cells.{Setting, Cell, Kind, find, insert, update, add, remove, Operation, lookup}
 use Rattle.semantics.specs.Step.{Row, Machine, answered, answerIn, finishedIn, doneCount, run}
 use Rattle.semantics.specs.Map.{Map, Done, Replay, withPair, unchanged, replaced, mapOf, stored, perform, performed, noted, replayOne, replay, Linearizable}
 use Rattle.semantics.specs.TotalsRule.{isAdd, isFindOrAdd, onlyFindsAndAdds, isPresent, addsTo, isAdded, amountsAdded, countsAt, roomsToMake}
 use Rattle.semantics.specs.TotalsRule.{CellsSuffice, EveryOperationFinishes, expectedFrom, expected, TotalsRule}
 use Rattle.semantics.proofs.Laws.{Lawful, Accepted}
-use Rattle.semantics.proofs.Lists.{none-some, cond-swap}
-use Rattle.semantics.proofs.Tests.{both}
+use Rattle.semantics.proofs.Lists.{elem-getD, all-at, any-at}
+use Rattle.semantics.proofs.Counts.{cond-swap, count-each}
 use Rattle.semantics.proofs.Orders.{fold-any-order, indices, occurs-indices, fold-indices}
 use Rattle.semantics.proofs.Linearizability.{linearizable}
 
@@ -45,7 +44,7 @@ module _ {T : Type 0} where
   -- the rooms to make are one fewer once a missing room that is added has been made
   rooms-with : (k : ℕ) (present : ℕ → Bool) → present k ≡ false → (ops : List (Operation T))
       → roomsToMake present ops ≡ cond (isAdded k ops) (suc (roomsToMake (with-key k present) ops)) (roomsToMake (with-key k present) ops)
-  unfolding roomsToMake isAdded countsAt addsTo with-key
+  unfolding roomsToMake isAdded any countsAt addsTo with-key
   rooms-with k present h [] = refl
   rooms-with k present h (o ∷ ops) = rw (rooms-with k present h ops) (go (ℕ-discrete (o .key) k))
     where
@@ -75,48 +74,20 @@ module _ {T : Type 0} where
   rooms-same p q h (o ∷ ops) = rw (h (o .key), rooms-same p q h ops)
 
   -- rows that are all done have each finished
-  done-le : (rows : List (Row T)) → doneCount rows ≤ length rows
-  unfolding doneCount
-  done-le [] = omega arith
-  done-le (r ∷ rows) = go (isSome (answered (r .state))) (done-le rows)
-    where
-      go : (z : Bool) → doneCount rows ≤ length rows → cond z (suc (doneCount rows)) (doneCount rows) ≤ suc (length rows)
-      go true h = omega arith
-      go false h = omega arith
-
   all-done : (rows : List (Row T)) → doneCount rows ≡ length rows → (i : ℕ) → finishedIn rows i ≡ isSome (getElem? rows i)
   unfolding doneCount finishedIn answerIn isSome
-  all-done [] e i = refl
-  all-done (r ∷ rows) e i = go (isSome (answered (r .state))) refl i (λ q. all-done rows q)
+  all-done rows e i = go (getElem? rows i) refl
     where
-      go : (z : Bool) → isSome (answered (r .state)) ≡ z → (i : ℕ)
-          → (doneCount rows ≡ length rows → (i : ℕ) → isSome (answerIn (getElem? rows i)) ≡ isSome (getElem? rows i))
-          → isSome (answerIn (getElem? (r ∷ rows) i)) ≡ isSome (getElem? (r ∷ rows) i)
-      go true q zero all-rest = q
-      go true q (suc i) all-rest = all-rest (suc-inj (rw q at e)) i
-      go false q i all-rest =
-          let l : doneCount rows ≤ length rows = done-le rows in
-          let f : doneCount rows ≡ suc (length rows) = rw q at e in
-          absurd (omega arith)
+      go : (o : Option (Row T)) → getElem? rows i ≡ o → isSome (answerIn o) ≡ isSome o
+      go none q = refl
+      go (some r) q =
+          let (b, f) = elem-getD rows i r q in
+          ap (λ (x : Row T). isSome (answered (x .state))) (sym f) ∙ count-each (λ (x : Row T). isSome (answered (x .state))) rows e i r b
 
-  -- an operation that a list names is one of the list's
-  only-at : (ops : List (Operation T)) (i : ℕ) {o : Operation T} → Holds (onlyFindsAndAdds ops) → getElem? ops i ≡ some o
-      → Holds (isFindOrAdd (o .kind))
-  unfolding onlyFindsAndAdds
-  only-at [] i h e = absurd (none-some e)
-  only-at (x ∷ ops) zero {o} h e =
-      let q : x ≡ o = cc in
-      subst (λ (y : Operation T). Holds (isFindOrAdd (y .kind))) q (both (isFindOrAdd (x .kind)) (onlyFindsAndAdds ops) h .0)
-  only-at (x ∷ ops) (suc i) h e = only-at ops i (both (isFindOrAdd (x .kind)) (onlyFindsAndAdds ops) h .1) e
-
+  -- a room that an operation of the list adds to is added
   added-at : (ops : List (Operation T)) (i : ℕ) {o : Operation T} → getElem? ops i ≡ some o → isAdd (o .kind) ≡ true → isAdded (o .key) ops ≡ true
   unfolding isAdded addsTo
-  added-at [] i e h = absurd (none-some e)
-  added-at (x ∷ ops) zero {o} e h =
-      let q : x ≡ o = cc in
-      subst (λ (y : Operation T). (isAdd (y .kind) && eqb (o .key) (y .key) || isAdded (o .key) ops) ≡ true) (sym q)
-      (rw (h, eq-eqb (o .key) (o .key) refl))
-  added-at (x ∷ ops) (suc i) {o} e h = rw (added-at ops i e h) (or-true (isAdd (x .kind) && eqb (o .key) (x .key)))
+  added-at ops i {o} e h = any-at (addsTo (o .key)) ops i e (rw (h, eq-eqb (o .key) (o .key) refl))
 
 module _ (S : Setting) (L : Lawful S) where
   -- what an operation adds to the total of room k
@@ -229,7 +200,7 @@ module _ (S : Setting) (L : Lawful S) where
 
     replayed : Holds (onlyFindsAndAdds ops) → (l : List ℕ) (r : Replay (S .Total)) → Enough (r .now)
         → (k : ℕ) → replayFrom r l .now .pairs k ≡ addFrom k (r .now .pairs k) l
-    unfolding foldl replayOne noted performed add-to add-one-to addsTo
+    unfolding foldl replayOne noted performed add-to add-one-to addsTo onlyFindsAndAdds
     replayed only [] r en k = refl
     replayed only (i ∷ l) r en k = go (getElem? ops i) refl (λ r′ en′. replayed only l r′ en′ k)
       where
@@ -239,7 +210,7 @@ module _ (S : Setting) (L : Lawful S) where
         go none e ih = ih r en
         go (some o) e ih =
             let m = r .now in
-            let p = performs (o .kind) (o .key) (o .amount) m (m .pairs (o .key)) refl (only-at ops i only e) (added-at ops i e) en in
+            let p = performs (o .kind) (o .key) (o .amount) m (m .pairs (o .key)) refl (all-at (λ (x : Operation (S .Total)). isFindOrAdd (x .kind)) ops i only e) (added-at ops i e) en in
             ih (noted S r (performed S m o)) (p .enough) ∙ ap (λ (z : Option (S .Total)). addFrom k z l) (p .pairs k)
 
   -- where every operation has finished, the log names each of them once

@@ -1,7 +1,7 @@
--- What the definitions use and the document takes for granted: options, folds, counts and searches.
+-- What the definitions use and the document takes for granted: options, folds, tests, counts and searches.
 -- Assumes nothing.
 use Prim.Native.Nat.{ℕ, zero, suc}
-use mathlib.Core.Bool.{Bool, true, false, cond}
+use mathlib.Core.Bool.{Bool, true, false, cond, _&&_, _||_}
 use mathlib.Core.List.{List, [], _∷_}
 use mathlib.Core.Option.{Option, none, some}
 use lib.Dec.{eqb, ltb}
@@ -19,10 +19,22 @@ unfoldable pub foldl : {A B : Type 0} → (B → A → B) → B → List A → B
 foldl f b [] = b
 foldl f b (a ∷ more) = foldl f (f b a) more
 
+-- whether all elements pass a test, whether one does, and how many do
+unfoldable pub all : {A : Type 0} → (A → Bool) → List A → Bool
+all test [] = true
+all test (a ∷ more) = test a && all test more
+
+unfoldable pub any : {A : Type 0} → (A → Bool) → List A → Bool
+any test [] = false
+any test (a ∷ more) = test a || any test more
+
+unfoldable pub count : {A : Type 0} → (A → Bool) → List A → ℕ
+count test [] = 0
+count test (a ∷ more) = cond (test a) (suc (count test more)) (count test more)
+
 -- how often i stands in a list
 unfoldable pub occurs : ℕ → List ℕ → ℕ
-occurs i [] = 0
-occurs i (j ∷ l) = cond (eqb i j) (suc (occurs i l)) (occurs i l)
+occurs i l = count (eqb i) l
 
 -- the first index from i on that passes a test, looking at n of them; i + n where none does
 unfoldable pub firstFrom : ℕ → ℕ → (ℕ → Bool) → ℕ

@@ -89,10 +89,6 @@ holds (sumIs a b s p) = eqb (roomSum a b) s && Bool·beq (plusAt narrowCeiling (
 holds (leaves j l) = leftBy 0 0 l (resultOf j)
 holds (refused cells number place) = leftBy number place (left cells [] [] 0 0 0) (resultOf (job cells [] []))
 
-unfoldable pub allHold : List Case → Bool
-allHold [] = true
-allHold (c ∷ more) = holds c && allHold more
-
 -- "A run in full": OP records of kind 4 and the rows of the one SC record
 unfoldable pub inFull : Job
 inFull =

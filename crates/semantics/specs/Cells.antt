@@ -1,11 +1,11 @@
 -- Document 01, "Cells, rows, schedule": cells, operations and answers, over any type of totals.
 -- Assumes nothing.
-use Prim.Native.Nat.{ℕ, suc}
-use mathlib.Core.Bool.{Bool, true, false, cond}
+use Prim.Native.Nat.{ℕ}
+use mathlib.Core.Bool.{Bool, true, false, cond, not}
 use mathlib.Core.List.{List, [], _∷_}
 use mathlib.Core.Option.{Option, none, some}
 use lib.Dec.{eqb}
-use Rattle.semantics.specs.Basics.{orElse}
+use Rattle.semantics.specs.Basics.{orElse, count}
 
 -- Everything that the rules leave open: the type of totals, how two are added and compared, how one is summed with others as whole numbers
 -- and then held, the number of cells c, and the home of a key.
@@ -73,5 +73,4 @@ isEmpty tombstone = false
 isEmpty (live k t) = false
 
 unfoldable pub usedCells : {T : Type 0} → List (Cell T) → ℕ
-usedCells [] = 0
-usedCells (x ∷ xs) = cond (isEmpty x) (usedCells xs) (suc (usedCells xs))
+usedCells cells = count (λ x. not (isEmpty x)) cells

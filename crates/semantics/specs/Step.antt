@@ -7,7 +7,7 @@ use mathlib.Core.List.{List, [], _∷_, _++_, map}
 use mathlib.Core.Option.{Option, none, some}
 use lib.Dec.{eqb}
 use lib.ListN.{getD, set, getElem?}
-use Rattle.semantics.specs.Basics.{isSome, foldl}
+use Rattle.semantics.specs.Basics.{isSome, foldl, count}
 use Rattle.semantics.specs.Cells.{Setting, Cell, empty, tombstone, live, Kind, find, insert, update, add, remove, Operation}
 use Rattle.semantics.specs.Cells.{Answer, found, present, changed, removed, inserted, absent, full}
 
@@ -238,5 +238,4 @@ finishedIn rows i = isSome (answerIn (getElem? rows i))
 
 -- "Finished rows are a set of 64 places, and the done count is its size."
 unfoldable pub doneCount : {T : Type 0} → List (Row T) → ℕ
-doneCount [] = 0
-doneCount (r ∷ rows) = cond (isSome (answered (r .state))) (suc (doneCount rows)) (doneCount rows)
+doneCount rows = count (λ r. isSome (answered (r .state))) rows

@@ -3,11 +3,12 @@
 -- Assumes nothing.
 use mathlib.Core.Path.{_≡_, refl}
 use Prim.Native.Nat.{ℕ, suc}
-use mathlib.Core.Bool.{true, false}
+use mathlib.Core.Bool.{true, false, cond}
+use lib.Dec.{eqb}
 use Rattle.semantics.specs.Cells.{Setting, Cell, empty, tombstone, live, Kind, find, insert, update, add, remove, Operation}
 use Rattle.semantics.specs.Cells.{found, present, changed, removed, inserted, absent, full}
 use Rattle.semantics.specs.Step.{own, free, other, sight, Held, vacant, mine, passes, loses, holds, finishes, pending, reading, holding, fresh, after}
-use Rattle.semantics.specs.Step.{makes, effect, readOwn, read, exhausted, heldCell, fateCell, newCell, swapAnswer, swapped}
+use Rattle.semantics.specs.Step.{makes, effect, readOwn, read, exhausted, bounded, sameCell, heldCell, fateCell, newCell, swapAnswer, swapped, step}
 
 -- an operation of key k with an amount, at a cell x; t is the total of its key
 module _ (S : Setting) (k : ℕ) (amount t : S .Total) (x : Cell (S .Total)) where
@@ -20,14 +21,15 @@ module _ (S : Setting) (k : ℕ) (amount t : S .Total) (x : Cell (S .Total)) whe
   begins = refl
 
   -- "1. The row's key: find finishes found with the total; insert finishes present with the total; update, add and remove hold the word."
-  the-key : (read S (row find) (own t) ≡ finishes (found t))
+  the-key : ((j : ℕ) → sight k (live j t) ≡ cond (eqb k j) (own t) other)
+      × (read S (row find) (own t) ≡ finishes (found t))
       × (read S (row insert) (own t) ≡ finishes (present t))
       × (read S (row update) (own t) ≡ holds (mine t))
       × (read S (row add) (own t) ≡ holds (mine t))
       × (read S (row remove) (own t) ≡ holds (mine t))
       × (heldCell S k (mine t) ≡ live k t)
-  unfolding read readOwn effect heldCell
-  the-key = (refl, refl, refl, refl, refl, refl)
+  unfolding sight read readOwn effect heldCell
+  the-key = (λ j. refl, refl, refl, refl, refl, refl, refl)
 
   -- "2. Empty: find, update and remove finish absent; insert and add hold the empty word."
   an-empty-cell : (sight {T = S .Total} k empty ≡ free)
@@ -51,9 +53,10 @@ module _ (S : Setting) (k : ℕ) (amount t : S .Total) (x : Cell (S .Total)) whe
       × (exhausted S find ≡ absent)
       × (exhausted S update ≡ absent)
       × (exhausted S remove ≡ absent)
+      × ((kind : Kind) (p : ℕ) → bounded S kind p passes ≡ cond (eqb (suc p) (S .size)) (finishes (exhausted S kind)) passes)
       × ((p : ℕ) → after {T = S .Total} p passes ≡ pending (reading (suc p)))
-  unfolding exhausted makes after
-  all-passed = (refl, refl, refl, refl, refl, λ p. refl)
+  unfolding exhausted makes bounded after
+  all-passed = (refl, refl, refl, refl, refl, λ kind p. refl, λ p. refl)
 
   -- "Swapping, one step after holding: if the cell still equals the held word, the new word is stored and the row finishes. Otherwise the
   -- swap is lost, counted, and the row reads the same cell again at its following step."
@@ -61,8 +64,9 @@ module _ (S : Setting) (k : ℕ) (amount t : S .Total) (x : Cell (S .Total)) whe
       × ((o : Operation (S .Total)) (h : Held (S .Total)) → swapped S o h x true ≡ record { cell = newCell S o h; turn = finishes (swapAnswer S o h) })
       × ((o : Operation (S .Total)) (h : Held (S .Total)) → swapped S o h x false ≡ record { cell = x; turn = loses })
       × ((p : ℕ) → after {T = S .Total} p loses ≡ pending (reading p))
-  unfolding swapped after
-  swapping = (λ p h. refl, λ o h. refl, λ o h. refl, λ p. refl)
+      × ((o : Operation (S .Total)) (p : ℕ) (h : Held (S .Total)) → step S o (holding p h) x ≡ swapped S o h x (sameCell S x (heldCell S (o .key) h)))
+  unfolding step swapped after
+  swapping = (λ p h. refl, λ o h. refl, λ o h. refl, λ p. refl, λ o p h. refl)
 
   -- "New words: on an empty cell, the key and the amount (inserted); update, the key and the amount; add, the key and the sum; remove, the
   -- tombstone. Update and add finish changed with the old total, remove finishes removed with it."

@@ -1,9 +1,10 @@
 -- Document 01, "Cells, rows, schedule": totals, under any ceiling.
 -- Assumes nothing.
 use Prim.Native.Nat.{ℕ, _+_, min}
-use mathlib.Core.Bool.{Bool, false, _||_, _&&_, Bool·beq}
+use mathlib.Core.Bool.{Bool, _||_, _&&_, Bool·beq}
 use mathlib.Core.List.{List, [], _∷_}
 use lib.Dec.{leb, eqb}
+use Rattle.semantics.specs.Basics.{any}
 
 -- "Totals 0 to 65,534 are true. Total 65,535 is pinned: at least that much." A total is an amount and whether it is pinned (saturated).
 pub record Total : Type 0 where
@@ -24,8 +25,7 @@ amounts [] = 0
 amounts (t ∷ ts) = t .amount + amounts ts
 
 unfoldable pub anyPinned : List Total → Bool
-anyPinned [] = false
-anyPinned (t ∷ ts) = t .pinned || anyPinned ts
+anyPinned ts = any (λ t. t .pinned) ts
 
 -- "they and the starting total are summed as whole numbers before the sum is held": a total with others added; with none it stays as it is
 unfoldable pub sumAt : ℕ → Total → List Total → Total
