@@ -1,7 +1,7 @@
 -- The narrow setting is lawful: the laws of totals under any ceiling, and the home of a key in a table of 2^0 to 2^13 cells.
 -- Assumes nothing.
 use mathlib.Core.Path.{_≡_, refl, ap, ap₂, sym, subst, _∙_}
-use Prim.Native.Nat.{ℕ, zero, suc, _+_, _-_, _*_, _/_, _%_, _^_, _≤_, _<_, min}
+use Prim.Native.Nat.{ℕ, zero, suc, _+_, _-_, _*_, _/_, _^_, _≤_, _<_, min}
 use mathlib.Core.Bool.{Bool, true, false, _||_, Bool·beq, or-assoc, or-comm, or-true, or-false}
 use mathlib.Core.List.{List, [], _∷_}
 use native.Mathlib.Nat.{add-assoc, mul-div-cancel-left}
@@ -92,12 +92,16 @@ power k (suc n) c h =
     (λ t. record { exponent = k; low = omega arith; high = omega arith; is = eqb→eq c (2 ^ k) t })
     (λ t. let p = power (suc k) n c t in record { exponent = p .exponent; low = omega arith; high = omega arith; is = p .is })
 
-pub home-below : (j r k : ℕ) → j + r ≡ 16 → homeIn (2 ^ j) k < 2 ^ j
-unfolding homeIn
-home-below j r k e =
+-- sixteen bits shared out over 2 ^ j cells
+share-below : (j r x : ℕ) → j + r ≡ 16 → x < 65536 → x / (65536 / 2 ^ j) < 2 ^ j
+share-below j r x e h =
     let whole : 65536 ≡ 2 ^ j * 2 ^ r = ap (λ n. 2 ^ n) (sym e) ∙ pow-add 2 j r in
     let part : 65536 / 2 ^ j ≡ 2 ^ r = ap (λ n. n / 2 ^ j) whole ∙ mul-div-cancel-left (2 ^ r) (pow-pos j) in
-    rw part (shr-lt j r (subst (λ n. k * 40503 % 65536 < 2 ^ n) (sym e) (omega arith)))
+    rw part (shr-lt j r (subst (λ n. x < 2 ^ n) (sym e) h))
+
+pub home-below : (j r k : ℕ) → j + r ≡ 16 → homeIn (2 ^ j) k < 2 ^ j
+unfolding homeIn
+home-below j r k e = share-below j r _ e (omega arith)
 
 pub narrow-lawful : (c : ℕ) → T (isPowerFrom 0 14 c) → Lawful (narrowSetting c)
 narrow-lawful c h =
