@@ -1,13 +1,15 @@
 -- How a fact of a machine is kept: an entry is idle or a step of an unfinished row, and a run is its entries.
 -- Assumes nothing.
-use mathlib.Core.Path.{_≡_, refl}
+use mathlib.Core.Path.{_≡_, refl, sym, ap, _∙_}
+use mathlib.Core.Bool.{true, false, true≢false}
 use Prim.Native.Nat.{ℕ}
 use mathlib.Core.List.{List, [], _∷_}
 use mathlib.Core.Option.{Option, none, some}
 use lib.ListN.{getElem?}
-use Rattle.semantics.specs.Basics.{foldl}
-use Rattle.semantics.specs.Cells.{Setting}
+use Rattle.semantics.specs.Basics.{isSome, foldl}
+use Rattle.semantics.specs.Cells.{Setting, Operation}
 use Rattle.semantics.specs.Step.{Pending, State, pending, finished, Row, Machine, idled, taken, act, entered, entry}
+use Rattle.semantics.specs.Step.{answered, answerIn, finishedIn}
 
 module _ (S : Setting) (P : Machine (S .Total) → Type 0) where
   pub by-entry : (m : Machine (S .Total)) (i : ℕ) → P (idled m)
@@ -29,3 +31,27 @@ module _ (S : Setting) (P : Machine (S .Total) → Type 0) where
   unfolding foldl
   by-run kept m h [] = h
   by-run kept m h (i ∷ schedule) = by-run kept (entry S m i) (kept m i h) schedule
+
+-- an entry that names a finished row is idle, and one that names an unfinished row is a step of it
+module _ (S : Setting) (m : Machine (S .Total)) (i : ℕ) where
+  pub entry-idles : finishedIn (m .rows) i ≡ true → entry S m i ≡ idled m
+  unfolding entry entered act finishedIn answerIn answered isSome
+  entry-idles = named (getElem? (m .rows) i)
+    where
+      acts : (o : Operation (S .Total)) (s : State (S .Total)) → isSome (answered s) ≡ true → act S m i o s ≡ idled m
+      acts o (pending s) h = absurd (true≢false (sym h))
+      acts o (finished a) h = refl
+
+      named : (o : Option (Row (S .Total))) → isSome (answerIn o) ≡ true → entered S m i o ≡ idled m
+      named none h = refl
+      named (some r) h = acts (r .operation) (r .state) h
+
+  pub entry-steps : (r : Row (S .Total)) → getElem? (m .rows) i ≡ some r → finishedIn (m .rows) i ≡ false
+      → (s : Pending (S .Total)) × (r .state ≡ pending s) × (entry S m i ≡ taken S m i (r .operation) s)
+  unfolding entry entered act finishedIn answerIn answered isSome
+  entry-steps r at h = acts (r .state) refl (sym (ap (λ o. isSome (answerIn o)) at) ∙ h)
+    where
+      acts : (s : State (S .Total)) → r .state ≡ s → isSome (answered (r .state)) ≡ false
+          → (p : Pending (S .Total)) × (r .state ≡ pending p) × (entry S m i ≡ taken S m i (r .operation) p)
+      acts (pending s) e f = (s, e, ap (entered S m i) at ∙ ap (act S m i (r .operation)) e)
+      acts (finished a) e f = absurd (true≢false (sym (ap (λ s. isSome (answered s)) e) ∙ f))

@@ -5,6 +5,7 @@ use Prim.Native.Nat.{ℕ, zero, suc, _<_}
 use mathlib.Core.Bool.{Bool, true, false, cond, _||_, or-true}
 use mathlib.Core.List.{List, [], _∷_, _++_, map}
 use mathlib.Core.Option.{none, some}
+use native.Mathlib.Nat.{not-suc-le-zero, le-of-suc-le-suc}
 use native.Mathlib.Omega.{arith}
 use borrow.Author.Tests.{eq-eqb}
 use lib.Dec.{T, eqb}
@@ -33,6 +34,11 @@ module _ {A : Type 0} where
   elem-getD (x ∷ l) zero d {a} e = let q : x ≡ a = cc in (omega arith, q)
   elem-getD (x ∷ l) (suc i) d e = let (h, q) = elem-getD l i d e in (omega arith, q)
 
+  pub elem-at : (l : List A) (i : ℕ) (d : A) → i < length l → getElem? l i ≡ some (getD l i d)
+  elem-at [] i d h = absurd (not-suc-le-zero h)
+  elem-at (x ∷ l) zero d h = refl
+  elem-at (x ∷ l) (suc i) d h = elem-at l i d (le-of-suc-le-suc h)
+
   -- what holds of each element and of a stored one holds of each after the store
   pub elem-set-all : (P : A → Type 0) (l : List A) (i : ℕ) (b : A) → P b → ((j : ℕ) (x : A) → getElem? l j ≡ some x → P x)
       → (j : ℕ) (x : A) → getElem? (set l i b) j ≡ some x → P x
@@ -54,6 +60,11 @@ module _ {A B : Type 0} (f : A → B) where
   elem-map-all P (x ∷ l) h zero b e = let q : f x ≡ b = cc in subst P q (h 0 x refl)
   elem-map-all P (x ∷ l) h (suc i) b e = elem-map-all P l (λ n. h (suc n)) i b e
 
+  pub map-set : (l : List A) (i : ℕ) (a : A) → map f (set l i a) ≡ set (map f l) i (f a)
+  map-set [] i a = refl
+  map-set (x ∷ l) zero a = refl
+  map-set (x ∷ l) (suc i) a = ap (λ (r : List B). f x ∷ r) (map-set l i a)
+
   pub map-set-elem : (l : List A) (i : ℕ) {a : A} (b : A) → getElem? l i ≡ some a → f b ≡ f a → map f (set l i b) ≡ map f l
   map-set-elem [] i b e h = refl
   map-set-elem (x ∷ l) zero {a} b e h = let q : a ≡ x = cc in ap (λ (y : B). y ∷ map f l) (h ∙ ap f q)
@@ -66,6 +77,11 @@ module _ {A B : Type 0} (f : A → B) where
 pub map-map : {A B C : Type 0} (f : B → C) (g : A → B) (l : List A) → map f (map g l) ≡ map (λ a. f (g a)) l
 map-map f g [] = refl
 map-map {C = C} f g (x ∷ l) = ap (λ (r : List C). f (g x) ∷ r) (map-map f g l)
+
+-- two maps of a list are equal where they are at each element
+pub map-each : {A B : Type 0} (f g : A → B) (l : List A) (d : A) → ((i : ℕ) → i < length l → f (getD l i d) ≡ g (getD l i d)) → map f l ≡ map g l
+map-each f g [] d h = refl
+map-each f g (x ∷ l) d h = ap₂ _∷_ (h 0 (omega arith)) (map-each f g l d (λ i b. h (suc i) (omega arith)))
 
 pub map-id : {A : Type 0} (l : List A) → map (λ a. a) l ≡ l
 map-id [] = refl

@@ -1,22 +1,24 @@
--- No refusal gives what the theorems ask: what follows from each condition of the run's table that is not met, and from all of them that the
--- starting cells are as Laws.antt says and that cells and operations can be packed.
+-- Searches, and tables of conditions of which the first that is met decides. Then that no refusal gives what the theorems ask: what follows
+-- from each condition of the run's table that is not met, and from all of them that the starting cells are as Laws.antt says and that cells
+-- and operations can be packed.
 -- Assumes nothing.
 use mathlib.Core.Path.{_≡_, refl, sym, subst, _∙_}
 use Prim.Native.Nat.{ℕ, zero, suc, _+_, _-_, _%_, _≤_, _<_, suc-le-suc}
-use mathlib.Core.Bool.{Bool, true, false, cond}
-use mathlib.Core.List.{List, [], _∷_, map}
+use mathlib.Core.Bool.{Bool, true, false, cond, _||_, true≢false}
+use mathlib.Core.List.{List, [], _∷_, _++_, map}
 use mathlib.Core.Option.{some}
 use native.Mathlib.Nat.{zero-add, mod-lt}
 use native.Mathlib.Decide.{ℕ-discrete, decLt}
 use native.Mathlib.Omega.{arith}
 use lib.Dec.{T, eqb, ltb}
 use lib.ListN.{length, getD, getElem?, length-map, List·getD-map, List·getD-eq-default}
-use borrow.Author.Tests.{ltb-false, leb-false, eqb-false}
+use borrow.Author.Tests.{lt-ltb, le-ltb, ltb-true, ltb-false, leb-false, eqb-false}
 use Rattle.semantics.specs.Basics.{firstBelow, firstFrom, someBelow}
 use Rattle.semantics.specs.Totals.{Total}
 use Rattle.semantics.specs.Cells.{Cell, Operation, empty, keyed, isEmpty}
 use Rattle.semantics.specs.Step.{placeOf}
 use Rattle.semantics.specs.Words.{sizeAllowed, homeIn, isLiveKey, keyOf, cellAllowed, operationAllowed, decode, decodeOperation, narrowSetting}
+use Rattle.semantics.specs.declared.Refusal.{Refusal}
 use Rattle.semantics.specs.Refusals.{Condition, firstMet, atFirst, Call, mostOperations, mostEntries, isRepeated, isUnreachable}
 use Rattle.semantics.specs.Refusals.{sizeNotAllowed, tooMany, tooShort, badCell, badOperation, badEntry, repeatedKey, unreachableKey, runConditions, runRefusal}
 use Rattle.semantics.proofs.Laws.{Accepted}
@@ -66,6 +68,61 @@ module _ (n : ℕ) (test : ℕ → Bool) where
       go true f = refl
       go false f = let g = none-below f i b in cc
 
+  pub found-below : someBelow n test ≡ true → test (firstBelow n test) ≡ true
+  unfolding someBelow
+  found-below e = first-below .hit (ltb-true (firstBelow n test) n e)
+
+  pub none-some-below : ((i : ℕ) → i < n → test i ≡ false) → someBelow n test ≡ false
+  unfolding someBelow
+  none-some-below h = go (someBelow n test) refl
+    where
+      go : (z : Bool) → someBelow n test ≡ z → z ≡ false
+      go false e = refl
+      go true e = let b = ltb-true (firstBelow n test) n e in sym (first-below .hit b) ∙ h (firstBelow n test) b
+
+-- one index more
+pub some-more : (n : ℕ) (test : ℕ → Bool) → someBelow (suc n) test ≡ (someBelow n test || test n)
+some-more n test = go (someBelow n test) refl (test n) refl
+  where
+    go : (y : Bool) → someBelow n test ≡ y → (z : Bool) → test n ≡ z → someBelow (suc n) test ≡ (y || z)
+    go true e z f =
+        some-below (suc n) test (firstBelow n test) (omega (arith, first-below n test .high)) (found-below n test e)
+    go false e true f = some-below (suc n) test n (omega arith) f
+    go false e false f =
+        none-some-below (suc n) test (λ i b. elim (ℕ-discrete i n) [ yes q ↦ rw q f | no q ↦ none-below n test e i (omega arith) ])
+
+-- a loop that searches has come to i: no index before i passes. It starts at 0, goes on where the test fails, and its answer is the first
+-- index that passes, or the end
+pub record Searching (n : ℕ) (test : ℕ → Bool) (i : ℕ) : Type 0 where
+  pub within : i ≤ n
+  pub before : (j : ℕ) → j < i → test j ≡ false
+
+module _ {n : ℕ} {test : ℕ → Bool} where
+  pub search-starts : Searching n test 0
+  search-starts = record { within = omega arith; before = λ j b. absurd (omega arith) }
+
+  module _ {i : ℕ} (s : Searching n test i) where
+    pub search-goes-on : i < n → test i ≡ false → Searching n test (i + 1)
+    search-goes-on b e =
+        record { within = omega arith; before = λ j l. elim (ℕ-discrete j i) [ yes q ↦ rw q e | no q ↦ s .before j (omega arith) ] }
+
+    first-is : (i < n → test i ≡ true) → i ≡ firstBelow n test
+    first-is e =
+        let f = first-below n test in
+        elim (decLt i (firstBelow n test)) [
+          | yes l ↦ absurd (true≢false (sym (e (omega arith)) ∙ f .before i (omega arith) l))
+          | no l ↦ elim (decLt (firstBelow n test) i) [
+            | yes m ↦ absurd (true≢false (sym (f .hit (omega arith)) ∙ s .before (firstBelow n test) m))
+            | no m ↦ omega arith
+          ]
+        ]
+
+    pub search-finds : test i ≡ true → i ≡ firstBelow n test
+    search-finds e = first-is (λ b. e)
+
+    pub search-ends : n ≤ i → i ≡ firstBelow n test
+    search-ends h = first-is (λ b. absurd (omega arith))
+
 -- with positive numbers, number 0 says that no condition is met
 abbrev pub Positive : List Condition → Type 0
 Positive [] = Unit
@@ -84,6 +141,39 @@ none-met (c ∷ more) p e = go (c .met) refl e (none-met more (p .1))
         → (firstMet more .number ≡ 0 → NoneMet more) → NoneMet (c ∷ more)
     go true m f r = absurd (omega (arith, p .0))
     go false m f r = (m, r f)
+
+-- a table in two parts: the first condition met is in the first part, or else in the second
+pub met-early : (cs ds : List Condition) → (firstMet cs .number ≡ 0 → ⊥) → firstMet (cs ++ ds) ≡ firstMet cs
+unfolding firstMet
+met-early [] ds h = absurd (h refl)
+met-early (c ∷ more) ds h = go (c .met) h (met-early more ds)
+  where
+    refusal : Refusal
+    refusal = record { number = c .number; place = c .place }
+
+    go : (b : Bool) → (cond b refusal (firstMet more) .number ≡ 0 → ⊥) → ((firstMet more .number ≡ 0 → ⊥) → firstMet (more ++ ds) ≡ firstMet more)
+        → cond b refusal (firstMet (more ++ ds)) ≡ cond b refusal (firstMet more)
+    go true h r = refl
+    go false h r = r h
+
+pub met-late : (cs ds : List Condition) → NoneMet cs → firstMet (cs ++ ds) ≡ firstMet ds
+unfolding firstMet
+met-late [] ds h = refl
+met-late (c ∷ more) ds h = rw (h .0) (met-late more ds (h .1))
+
+pub met-none : firstMet [] ≡ record { number = 0; place = 0 }
+unfolding firstMet
+met-none = refl
+
+-- a table that opens with a search, whose answer is r
+module _ (number n : ℕ) (test : ℕ → Bool) (more : List Condition) (r : ℕ) (e : r ≡ firstBelow n test) where
+  pub met-at : r < n → firstMet (atFirst number n test ∷ more) ≡ record { number = number; place = r }
+  unfolding firstMet atFirst someBelow
+  met-at b = rw (← e, lt-ltb r n b)
+
+  pub met-nowhere : n ≤ r → firstMet (atFirst number n test ∷ more) ≡ firstMet more
+  unfolding firstMet atFirst someBelow
+  met-nowhere b = rw (← e, le-ltb r n b)
 
 -- what the run's checks say of a call that none of them turns away
 pub record Passed (call : Call) : Type 0 where

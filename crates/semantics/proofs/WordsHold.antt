@@ -25,9 +25,9 @@ use Rattle.semantics.proofs.Tests.{passed as affirm}
 use Rattle.semantics.proofs.Table.{keyed-live, Looked, nowhere, somewhere, looked}
 use Rattle.semantics.proofs.Linearizability.{linearizable}
 use Rattle.semantics.proofs.TotalsHold.{totals-rule}
-use Rattle.semantics.proofs.Narrow.{allowed-lawful}
+use Rattle.semantics.proofs.Narrow.{allowed-lawful, allowed-bounds}
 use Rattle.semantics.proofs.Words.{Packed, Packs, decode-encode-all, keyed-is-live}
-use Rattle.semantics.proofs.RunPacks.{run-packs}
+use Rattle.semantics.proofs.RunPacks.{AllPack, run-packs}
 use Rattle.semantics.proofs.Start.{Passed, accepted-call, start-accepted, start-packs, operations-packed}
 
 -- a written answer is its row's, as far as there are rows
@@ -134,15 +134,15 @@ module _ (call : Call) (ok : Passed call) where
   abbrev ops : List (Operation Total)
   ops = map decodeOperation (call .operations)
 
-  abbrev after : List ℕ → Machine Total
+  abbrev pub after : List ℕ → Machine Total
   after schedule = machine (call .cells) (call .operations) schedule
 
-  lin : (schedule : List ℕ) → Linearizable S start ops (after schedule)
+  pub lin : (schedule : List ℕ) → Linearizable S start ops (after schedule)
   unfolding machine
   lin schedule = linearizable S (allowed-lawful c (ok .size)) start ops (start-accepted call ok) schedule
 
   -- one entry more, after any others
-  one-entry : (entries : List ℕ) (i : ℕ) → after (entries ++ (i ∷ [])) ≡ entry S (after entries) i
+  pub one-entry : (entries : List ℕ) (i : ℕ) → after (entries ++ (i ∷ [])) ≡ entry S (after entries) i
   unfolding machine run
   one-entry entries i = foldl-snoc (entry S) (begin S start ops) entries i
 
@@ -161,11 +161,15 @@ module _ (call : Call) (ok : Passed call) where
     words : List ℕ
     words = map encode (m .cells)
 
+    pub packs : AllPack c m
+    unfolding machine
+    packs = run-packs c start ops (omega (arith, allowed-bounds c (ok .size))) (length-map (call .cells) decode) (start-packs call ok) (operations-packed call ok) schedule
+
     back : map decode words ≡ m .cells
     unfolding words machine
-    back = decode-encode-all (m .cells) (λ i b. run-packs c start ops (start-packs call ok) (operations-packed call ok) schedule i)
+    back = decode-encode-all (m .cells) (λ i b. packs .cells i)
 
-    same-length : length (m .rows) ≡ length (call .operations)
+    pub same-length : length (m .rows) ≡ length (call .operations)
     same-length =
         sym (length-map (m .rows) (λ r. r .operation)) ∙ ap length (lin schedule .operations) ∙ length-map (call .operations) decodeOperation
 

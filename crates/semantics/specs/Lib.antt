@@ -3,6 +3,7 @@ pub mod Totals
 pub mod Cells
 pub mod Words
 pub mod Step
+pub mod Sets
 pub mod StepRules
 pub mod Map
 pub mod TotalsRule

@@ -27,7 +27,7 @@ pub record Result : Type 0 where
   pub log : List ℕ
 
 -- "The first answers, one per row, and the first log bytes, one per finished row, are written; later elements keep their contents."
-unfoldable pub over : List ℕ → List ℕ → List ℕ
+unfoldable pub over : {A : Type 0} → List A → List A → List A
 over written old = written ++ drop (length written) old
 
 -- the run of packed cells and operations

@@ -35,8 +35,9 @@ tombstoneWord = 65535 * 65536
 unfoldable pub cellAllowed : ℕ → Bool
 cellAllowed w = isLiveKey (keyOf w) || eqb w 0 || eqb w tombstoneWord
 
+-- the cell that a word is (a word that is no cell is never empty; refusal 4 turns it away), and the word of a cell
 unfoldable pub decode : ℕ → Cell Total
-decode w = cond (isLiveKey (keyOf w)) (live (keyOf w) (narrow (totalBits w))) (cond (eqb (keyOf w) 0) empty tombstone)
+decode w = cond (isLiveKey (keyOf w)) (live (keyOf w) (narrow (totalBits w))) (cond (eqb w 0) empty tombstone)
 
 unfoldable pub encode : Cell Total → ℕ
 encode empty = 0
