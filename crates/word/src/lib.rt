@@ -5,6 +5,8 @@
 ghost use mathlib.Core.Path.{_≡_};
 ghost use Prim.Native.Nat.{_+_, _*_, _/_, _%_, _^_};
 ghost use Rattle.semantics.specs.Words.{keyOf, totalBits, kindBits, bitsAboveKind, operationKey, amountBits};
+ghost use lib.Count.{ones};
+ghost use Rattle.semantics.specs.Sets.{isIn, including};
 ghost use Rattle.semantics.specs.Words.{isLiveKey, isPowerFrom, sizeAllowed, roomHome, roomSum};
 
 // Sixteen bits above sixteen: the layout of a cell and of an answer, and of an operation's key and
@@ -132,15 +134,52 @@ pub fn size_allowed(c: u32) -> bool
     is_power_from(3, 10, c)
 }
 
+// A set of 64 places, a bit for each: whether a place is in it, the set with one place more, and its
+// size. A number past 63 is no place: it is in no set, and adding it changes nothing.
+pub fn has(set: u64, place: u8) -> bool
+    ensures { λ r. ⌜ r ≡ isIn set place ⌝ }
+{
+    if place < 64 {
+        return (set >> place) & 1 == 1;
+    }
+    false
+}
+
+pub fn with(set: u64, place: u8) -> u64
+    ensures { λ r. ⌜ r ≡ including set place ⌝ }
+{
+    if place < 64 {
+        return set | (1 << place);
+    }
+    set
+}
+
+pub fn size(set: u64) -> usize
+    ensures { λ r. ⌜ r ≡ ones set ⌝ }
+{
+    u64::count_ones(set) as usize
+}
+
+// The home of a key in a table whose cells have each this share, 65,536 / c, of the 65,536 hashes: a
+// loop finds the share once. A share of 0 is no table's; by 0 a quotient is 0 in the definitions.
+pub fn home(key: u16, share: u32) -> u32
+    ensures { λ r. ⌜ r ≡ key * 40503 % 65536 / share ⌝ }
+{
+    if share == 0 {
+        return 0;
+    }
+    (key as u32) * 40503 % 65536 / share
+}
+
 // For the load module: the home of a key in c cells, or 65,535 where c or the key is not allowed.
-// Both are judged first, so the product fits and no divisor is 0.
+// Both are judged first, so the key has sixteen bits and no divisor is 0.
 #[no_mangle]
 pub extern "C" fn room_home(key: u32, c: u32) -> u32
     ensures { λ r. ⌜ r ≡ roomHome key c ⌝ }
 {
     if size_allowed(c) {
         if is_live(key) {
-            return key * 40503 % 65536 / (65536 / c);
+            return home(key as u16, 65536 / c);
         }
     }
     65535

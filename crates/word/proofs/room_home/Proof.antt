@@ -1,8 +1,7 @@
--- `word::room_home` meets its contract: what the two tests allow keeps the product within 32 bits and the divisors above 0.
+-- `word::room_home` meets its contract: what the two tests allow keeps the key within 16 bits and the divisor above 0.
 -- Assumes nothing.
 use mathlib.Core.Path.{_≡_, sym, _∙_}
 use mathlib.Core.Bool.{true, and-false}
-use native.Mathlib.Nat.{le-div-iff-mul-le}
 use native.Mathlib.Omega.{arith}
 use borrow.Author.Needs.{needs}
 use Rattle.semantics.specs.Words.{isLiveKey, sizeAllowed, homeIn, roomHome}
@@ -24,18 +23,18 @@ size-allowed-requires c κs = search needs
 is-live-requires : tie.Need-is-live-requires
 is-live-requires c κs = search needs
 
-mul-result : tie.Need-mul-result
-mul-result c = omega (arith, live-bounds _ (true-T _ (live c)))
+cast-home : tie.Need-cast-home
+cast-home c = omega (arith, live-bounds _ (true-T _ (live c)))
 
-div-result : tie.Need-div-result
-div-result c = omega (arith, allowed-bounds _ (true-T _ (sized c)))
+div-home : tie.Need-div-home
+div-home c = omega (arith, allowed-bounds _ (true-T _ (sized c)))
 
-div-result-2 : tie.Need-div-result-2
-div-result-2 c = le-div-iff-mul-le (div-result c) .1 (omega (arith, allowed-bounds _ (true-T _ (sized c))))
+home-requires : tie.Need-home-requires
+home-requires c κs = search needs
 
 returns : tie.Need-returns
 unfolding roomHome homeIn
-returns c = rw (sized c, live c)
+returns c = rw (sized (c .before), live (c .before)) (c .home .ensures)
 
 returns-2 : tie.Need-returns-2
 unfolding roomHome
@@ -48,4 +47,4 @@ returns-3 c = rw (← c .before .size-allowed .ensures, c .if1 .left)
 pub room-home-spec : {M : Type 1} → statement M
 room-home-spec =
     tie.close
-    (tie.spec size-allowed-requires is-live-requires mul-result div-result div-result-2 returns returns-2 returns-3)
+    (tie.spec size-allowed-requires is-live-requires cast-home div-home home-requires returns returns-2 returns-3)
