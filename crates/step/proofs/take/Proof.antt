@@ -1,0 +1,22 @@
+-- `step::take` meets its contract.
+-- Assumes nothing.
+use mathlib.Core.Path.{_∙_}
+use borrow.Author.Needs.{needs}
+use Rattle.step.proofs.Rules.{taken-swaps, taken-reads}
+use Rattle.step.proofs.take.Statement.{statement}
+use Rattle.step.proofs.take.Tie as tie
+
+swap-requires : tie.Need-swap-requires
+swap-requires c κs = search needs
+
+returns : tie.Need-returns
+returns c = c .swap .ensures ∙ taken-swaps _ _ _ _ (c .before .if1 .taken)
+
+look-requires : tie.Need-look-requires
+look-requires c κs = search needs
+
+returns-2 : tie.Need-returns-2
+returns-2 c = c .look .ensures ∙ taken-reads _ _ _ _ (c .before .if1 .left)
+
+pub take-spec : {M : Type 1} → statement M
+take-spec = tie.close (tie.spec swap-requires returns look-requires returns-2)
