@@ -1,0 +1,66 @@
+-- `validate::slices_number` meets its contract, test by test.
+-- Assumes nothing.
+use mathlib.Core.Bool.{or-true}
+use borrow.Author.Tests.{lt-ltb, le-ltb}
+use Rattle.semantics.specs.Refusals.{firstMet, sizeNotAllowed, tooMany, tooShort}
+use borrow.Author.Needs.{needs}
+use Rattle.validate.proofs.slices_number.Statement.{statement}
+use Rattle.validate.proofs.slices_number.Tie as tie
+
+size-allowed-requires : tie.Need-size-allowed-requires
+size-allowed-requires c κs = search needs
+
+returns : tie.Need-returns
+unfolding firstMet sizeNotAllowed tooMany tooShort
+returns c = rw (← c .before .before .size-allowed .ensures, c .before .if1 .taken, lt-ltb _ _ (c .if2 .taken))
+
+returns-2 : tie.Need-returns-2
+unfolding firstMet sizeNotAllowed tooMany tooShort
+returns-2 c = rw (← c .before .before .before .size-allowed .ensures, c .before .before .if1 .taken, lt-ltb _ _ (c .if3 .taken), or-true)
+
+returns-3 : tie.Need-returns-3
+unfolding firstMet sizeNotAllowed tooMany tooShort
+returns-3 c =
+    let size = c .before .before .before in
+    rw (
+      ← size .before .size-allowed .ensures,
+      size .if1 .taken,
+      le-ltb _ _ (c .before .before .if2 .left),
+      le-ltb _ _ (c .before .if3 .left),
+      lt-ltb _ _ (c .if4 .taken),
+    )
+
+returns-4 : tie.Need-returns-4
+unfolding firstMet sizeNotAllowed tooMany tooShort
+returns-4 c =
+    let size = c .before .before .before .before in
+    rw (
+      ← size .before .size-allowed .ensures,
+      size .if1 .taken,
+      le-ltb _ _ (c .before .before .before .if2 .left),
+      le-ltb _ _ (c .before .before .if3 .left),
+      lt-ltb _ _ (c .if5 .taken),
+      or-true,
+    )
+
+returns-5 : tie.Need-returns-5
+unfolding firstMet sizeNotAllowed tooMany tooShort
+returns-5 c =
+    let size = c .before .before .before .before in
+    rw (
+      ← size .before .size-allowed .ensures,
+      size .if1 .taken,
+      le-ltb _ _ (c .before .before .before .if2 .left),
+      le-ltb _ _ (c .before .before .if3 .left),
+      le-ltb _ _ (c .before .if4 .left),
+      le-ltb _ _ (c .if5 .left),
+    )
+
+returns-6 : tie.Need-returns-6
+unfolding firstMet sizeNotAllowed tooMany tooShort
+returns-6 c = rw (← c .before .size-allowed .ensures, c .if1 .left)
+
+pub slices-number-spec : {M : Type 1} → statement M
+slices-number-spec =
+    tie.close
+    (tie.spec size-allowed-requires returns returns-2 returns-3 returns-4 returns-5 returns-6)
