@@ -1,0 +1,3 @@
+pub mod Over
+pub mod Loop
+pub mod Result

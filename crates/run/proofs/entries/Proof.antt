@@ -1,0 +1,269 @@
+-- `run::entries` meets its contract: Loop.antt has what the loop keeps, and that each way round keeps it.
+-- Assumes nothing.
+use mathlib.Core.Path.{_≡_, refl, sym, ap, subst, _∙_}
+use Prim.Native.Nat.{ℕ, _-_, _≤_, _<_}
+use native.Mathlib.Omega.{arith}
+use mathlib.Core.Bool.{false}
+use mathlib.Core.List.{List, [], _∷_}
+use lib.ListN.{length, replicate, length-replicate, getD, take}
+use types.Run.{OneOf, miss}
+use denote.Enum.Declared.{tagOf}
+use borrow.Author.Needs.{needs}
+use Rattle.semantics.specs.Sets.{isIn}
+use Rattle.semantics.specs.Refusals.{Call}
+use Rattle.semantics.specs.Run.{callOf, machine}
+use Rattle.semantics.proofs.Narrow.{allowed-bounds}
+use Rattle.semantics.proofs.Start.{Passed, accepted-call}
+use Rattle.step.specs.declared.Event.{Event}
+use Rattle.step.specs.Progress.{begun}
+use Rattle.step.proofs.Event as event
+use Rattle.run.proofs.Over.{over-length}
+use Rattle.run.proofs.Loop.{At, at-start, cells-long, answers-long, log-long, at-end, at-idle, room, at-finished, at-lost, at-other}
+use Rattle.run.proofs.entries.Statement.{statement}
+use Rattle.run.proofs.entries.Tie as tie
+
+abbrev Inv-loop : tie.InvT-loop
+Inv-loop cells₀ operations schedule answers₀ log₀ records₀ finished₀ lost₀ idle₀ k₀ cells answers log records finished lost idle k =
+    (k ≤ length schedule) × At (length cells₀) answers₀ log₀ (machine cells₀ operations (take k schedule)) k cells records answers log finished lost idle
+
+abbrev μ-loop : tie.MeasureT-loop
+μ-loop cells₀ operations schedule answers₀ log₀ records₀ finished₀ lost₀ idle₀ k₀ cells answers log records finished lost idle k = length schedule - k
+
+-- the call, and that the checks let it pass
+abbrev called : tie.Start Inv-loop μ-loop → Call
+called c =
+    record {
+      cells = c .args .cells .now;
+      operations = c .args .operations .now;
+      schedule = c .args .schedule .now;
+      answersLength = length (c .args .answers .now);
+      logLength = length (c .args .log .now);
+    }
+
+ok : (c : tie.Start Inv-loop μ-loop) → Passed (called c)
+unfolding callOf
+ok c = accepted-call (called c) (c .pre)
+
+-- where a turn of the loop began
+abbrev start : tie.At-loop Inv-loop μ-loop → tie.Start Inv-loop μ-loop
+start c = c .before .before .before .before .before .before .before .before .before .before .before
+
+-- what an entry names that is not idle
+entry-below : (c : tie.Else1 Inv-loop μ-loop) → let s = start (c .before .before .before .before) in getD (s .args .schedule .now) (c .before .before .before .before .loop .k) 0 < length (s .args .operations .now)
+entry-below c = ok (start (c .before .before .before .before)) .entries (c .before .before .before .before .loop .k) (c .before .before .before .loop-test .taken)
+
+small : (c : tie.Else1 Inv-loop μ-loop) → getD (start (c .before .before .before .before) .args .schedule .now) (c .before .before .before .before .loop .k) 0 < 64
+small c = omega (arith, entry-below c, ok (start (c .before .before .before .before)) .few)
+
+unfinished : (c : tie.Else1 Inv-loop μ-loop) → isIn (c .before .before .before .before .loop .finished) (getD (start (c .before .before .before .before) .args .schedule .now) (c .before .before .before .before .loop .k) 0) ≡ false
+unfinished c = sym (c .before .has .ensures) ∙ c .if1 .left
+
+-- the answers that are cleared are as long as those lent
+cleared-long : (c : tie.At-loop Inv-loop μ-loop) → length (c .before .before .before .before .clear .last .0) ≡ length (start c .args .answers .now)
+cleared-long c =
+    let n = length (start c .args .operations .now) in
+    ap length (c .before .before .before .before .clear .ensures) ∙ over-length (replicate n 0) _ (omega (arith, length-replicate {A = ℕ} n 0, ok (start c) .answers))
+
+-- an event whose tag is among the keys of the last arm is none of another tag
+is-none : (ks : List ℕ) {x y : Event} → OneOf ks (tagOf event.the-type y) → (OneOf ks (tagOf event.the-type x) → ⊥) → y ≡ x → ⊥
+is-none ks among other q = other (subst (λ (e : Event). OneOf ks (tagOf event.the-type e)) q among)
+
+clear-requires : tie.Need-clear-requires Inv-loop μ-loop
+clear-requires c κs = ok (c .before .before .before .before .before .before) .answers
+
+cast-begin : tie.Need-cast-begin Inv-loop μ-loop
+cast-begin c = record { fits = omega (arith, allowed-bounds _ (ok (c .before .before .before .before .before .before .before .before .before) .size)) }
+
+begin-requires : tie.Need-begin-requires Inv-loop μ-loop
+begin-requires c κs = ok (c .before .before .before .before .before .before .before .before .before) .few
+
+loop-holds : tie.Need-loop-holds Inv-loop μ-loop
+loop-holds c = (omega arith, at-start _ (ok (c .before .before .before .before .before .before .before .before .before .before)) _ _ (ok (c .before .before .before .before .before .before .before .before .before .before) .log) _ _ (c .before .before .before .clear .ensures) (c .begin .ensures))
+
+shared-slice-read-entry : tie.Need-shared-slice-read-entry Inv-loop μ-loop
+shared-slice-read-entry c = search needs
+
+add-k : tie.Need-add-k Inv-loop μ-loop
+add-k c = search needs
+
+has-requires : tie.Need-has-requires Inv-loop μ-loop
+has-requires c κs = search needs
+
+add-idle : tie.Need-add-idle Inv-loop μ-loop
+add-idle c = record { fits = omega (arith, c .before .before .before .before .loop .inv .1 .few, c .before .before .before .loop-test .taken, ok (start (c .before .before .before .before)) .short) }
+
+loop-less : tie.Need-loop-less Inv-loop μ-loop
+loop-less c = search needs
+
+loop-again : tie.Need-loop-again Inv-loop μ-loop
+loop-again c =
+    let turn = c .before .before .before in
+    let s = start (turn .before) in (
+      omega (arith, turn .loop-test .taken),
+      at-idle _ (ok s) _ _ (ok s .log) _ _ _ _ _ _ _ _ (turn .before .loop .inv .1) _ (turn .loop-test .taken) refl (sym (c .before .has .ensures) ∙ c .if1 .taken),
+    )
+
+cast-i : tie.Need-cast-i Inv-loop μ-loop
+cast-i c = record { fits = omega (arith, small c) }
+
+mul-take-step : tie.Need-mul-take-step Inv-loop μ-loop
+mul-take-step c = record { fits = omega (arith, small (c .before)) }
+
+shared-slice-read-take-step : tie.Need-shared-slice-read-take-step Inv-loop μ-loop
+shared-slice-read-take-step c = entry-below (c .before .before)
+
+mul-take-step-2 : tie.Need-mul-take-step-2 Inv-loop μ-loop
+mul-take-step-2 c = record { fits = omega (arith, small (c .before .before)) }
+
+array-copy-out-take-step : tie.Need-array-copy-out-take-step Inv-loop μ-loop
+array-copy-out-take-step c = small (c .before .before)
+
+take-step-requires : tie.Need-take-step-requires Inv-loop μ-loop
+take-step-requires c κs = search needs
+
+mul-records : tie.Need-mul-records Inv-loop μ-loop
+mul-records c = record { fits = omega (arith, small (c .before .before .before .before .before .before .before)) }
+
+array-set-from-records : tie.Need-array-set-from-records Inv-loop μ-loop
+array-set-from-records c = small (c .before .before .before .before .before .before .before)
+
+enum-told : tie.Need-enum-told Inv-loop μ-loop
+enum-told c = search needs
+
+mul-answers : tie.Need-mul-answers Inv-loop μ-loop
+mul-answers c = record { fits = omega (arith, small (c .before .before .before .before .before .before .before .before .before)) }
+
+slice-write-answers : tie.Need-slice-write-answers Inv-loop μ-loop
+slice-write-answers c =
+    let e = c .before .before .before .before .before .before .before .before .before in
+    let turn = e .before .before .before in
+    let s = start (turn .before) in
+    omega (arith, entry-below e, answers-long _ (ok s) _ _ (ok s .log) _ _ _ _ _ _ _ _ (turn .before .loop .inv .1) (omega (arith, cleared-long (turn .before), ok s .answers)), cleared-long (turn .before), ok s .answers)
+
+size-requires : tie.Need-size-requires Inv-loop μ-loop
+size-requires c κs = search needs
+
+slice-write-log : tie.Need-slice-write-log Inv-loop μ-loop
+slice-write-log c =
+    let e = c .before .before .before .before .before .before .before .before .before .before in
+    let turn = e .before .before .before in
+    let s = start (turn .before) in
+    let H = turn .before .loop .inv .1 in
+    omega (arith, c .size .ensures, log-long _ (ok s) _ _ (ok s .log) _ _ _ _ _ _ _ _ H, room _ (ok s) _ _ (ok s .log) _ _ _ _ _ _ _ _ H _ (turn .loop-test .taken) refl (begun 0) (unfinished e))
+
+with-requires : tie.Need-with-requires Inv-loop μ-loop
+with-requires c κs = search needs
+
+loop-less-2 : tie.Need-loop-less-2 Inv-loop μ-loop
+loop-less-2 c = search needs
+
+loop-again-2 : tie.Need-loop-again-2 Inv-loop μ-loop
+loop-again-2 c =
+    let taken = c .before .before .before .before .before .before .before in
+    let e = taken .before .before .before .before in
+    let turn = e .before .before .before in
+    let s = start (turn .before) in (
+      omega (arith, turn .loop-test .taken),
+      at-finished _ (ok s) _ _ (ok s .log) _ _ _ _ _ _ _ _ (turn .before .loop .inv .1) _ (turn .loop-test .taken) refl _ (unfinished e) _ _
+          (taken .take-step .ensures .0) (taken .take-step .ensures .1) (c .before .before .enum-told .given .1) _ _ (c .before .size .ensures) (c .with .ensures),
+    )
+
+enum-told-2 : tie.Need-enum-told-2 Inv-loop μ-loop
+enum-told-2 c = search needs
+
+add-lost : tie.Need-add-lost Inv-loop μ-loop
+add-lost c =
+    let turn = c .before .before .before .before .before .before .before .before .before .before .before .before in
+    record { fits = omega (arith, turn .before .loop .inv .1 .few, turn .loop-test .taken, ok (start (turn .before)) .short) }
+
+loop-less-3 : tie.Need-loop-less-3 Inv-loop μ-loop
+loop-less-3 c = search needs
+
+loop-again-3 : tie.Need-loop-again-3 Inv-loop μ-loop
+loop-again-3 c =
+    let taken = c .before .before .before .before .before in
+    let e = taken .before .before .before .before in
+    let turn = e .before .before .before in
+    let s = start (turn .before) in (
+      omega (arith, turn .loop-test .taken),
+      at-lost _ (ok s) _ _ (ok s .log) _ _ _ _ _ _ _ _ (turn .before .loop .inv .1) _ (turn .loop-test .taken) refl _ (unfinished e) _ _
+          (taken .take-step .ensures .0) (taken .take-step .ensures .1) (c .enum-told2 .given .1),
+    )
+
+loop-less-4 : tie.Need-loop-less-4 Inv-loop μ-loop
+loop-less-4 c = search needs
+
+loop-again-4 : tie.Need-loop-again-4 Inv-loop μ-loop
+loop-again-4 c =
+    let rest : List ℕ = 0 ∷ 1 ∷ 4 ∷ [] in
+    let taken = c .before .before .before .before in
+    let e = taken .before .before .before .before in
+    let turn = e .before .before .before in
+    let s = start (turn .before) in (
+      omega (arith, turn .loop-test .taken),
+      at-other _ (ok s) _ _ (ok s .log) _ _ _ _ _ _ _ _ (turn .before .loop .inv .1) _ (turn .loop-test .taken) refl _ (unfinished e) _ _
+          (taken .take-step .ensures .0) (taken .take-step .ensures .1) (is-none rest (c .match .keys3) (miss rest 3 tt)) (is-none rest (c .match .keys3) (miss rest 2 tt)),
+    )
+
+same-length : tie.Need-same-length Inv-loop μ-loop
+same-length c =
+    let s = start (c .before) in
+    cells-long _ (ok s) _ _ (ok s .log) _ _ _ _ _ _ _ _ (c .before .loop .inv .1)
+
+same-length-2 : tie.Need-same-length-2 Inv-loop μ-loop
+same-length-2 c =
+    let s = start (c .before) in
+    answers-long _ (ok s) _ _ (ok s .log) _ _ _ _ _ _ _ _ (c .before .loop .inv .1) (omega (arith, cleared-long (c .before), ok s .answers)) ∙ cleared-long (c .before)
+
+same-length-3 : tie.Need-same-length-3 Inv-loop μ-loop
+same-length-3 c =
+    let s = start (c .before) in
+    log-long _ (ok s) _ _ (ok s .log) _ _ _ _ _ _ _ _ (c .before .loop .inv .1)
+
+returns : tie.Need-returns Inv-loop μ-loop
+returns c =
+    let s = start (c .before) in
+    at-end _ (ok s) _ _ (ok s .log) _ _ _ _ _ _ _ _ (c .before .loop .inv .1) (c .loop-test .left) _ (c .before .before .before .before .before .clear .ensures)
+
+pub entries-spec : {M : Type 1} → statement M
+entries-spec =
+    tie.close
+    (tie.spec
+    Inv-loop
+    μ-loop
+    clear-requires
+    cast-begin
+    begin-requires
+    loop-holds
+    shared-slice-read-entry
+    add-k
+    has-requires
+    add-idle
+    loop-less
+    loop-again
+    cast-i
+    mul-take-step
+    shared-slice-read-take-step
+    mul-take-step-2
+    array-copy-out-take-step
+    take-step-requires
+    mul-records
+    array-set-from-records
+    enum-told
+    mul-answers
+    slice-write-answers
+    size-requires
+    slice-write-log
+    with-requires
+    loop-less-2
+    loop-again-2
+    enum-told-2
+    add-lost
+    loop-less-3
+    loop-again-3
+    loop-less-4
+    loop-again-4
+    same-length
+    same-length-2
+    same-length-3
+    returns)

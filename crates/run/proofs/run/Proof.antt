@@ -1,0 +1,73 @@
+-- `run::run` meets its contract: a call is turned away, or it leaves what its entries come to.
+-- Assumes nothing.
+use mathlib.Core.Path.{_≡_, sym, ap, _∙_}
+use denote.Ref.{now}
+use borrow.Author.Needs.{needs}
+use Rattle.semantics.specs.declared.Refusal.{Refusal}
+use Rattle.semantics.specs.Refusals.{runRefusal}
+use Rattle.semantics.specs.Run.{callOf, refusedResult}
+use Rattle.run.proofs.Result.{accepted, refused, kept}
+use Rattle.run.proofs.run.Statement.{statement}
+use Rattle.run.proofs.run.Tie as tie
+
+-- a call that is not turned away
+number-0 : (c : tie.Then1) → let a = c .before .before .before .before .before .before .before .before .before .args in runRefusal (callOf (now (a .cells)) (now (a .operations)) (now (a .schedule)) (now (a .answers)) (now (a .log))) .number ≡ 0
+unfolding callOf
+number-0 c = sym (ap (λ (r : Refusal). r .number) (c .before .before .validate .ensures)) ∙ c .if1 .taken
+
+validate-requires : tie.Need-validate-requires
+validate-requires c κs = search needs
+
+entries-requires : tie.Need-entries-requires
+entries-requires c κs = number-0 (c .before .before .before)
+
+size-requires : tie.Need-size-requires
+size-requires c κs = search needs
+
+same-length : tie.Need-same-length
+same-length c = search needs
+
+same-length-2 : tie.Need-same-length-2
+same-length-2 c = search needs
+
+same-length-3 : tie.Need-same-length-3
+same-length-3 c = search needs
+
+returns : tie.Need-returns
+returns c =
+    let ran = c .before .before .before .before .before .before .before .entries in
+    kept _ _ _ _ _ _
+    (accepted _ _ _ _ _ (number-0 (c .before .before .before .before .before .before .before .before .before .before .before))
+    ∙ ran .ensures
+    ∙ (λ i. record {
+      outcome = record { number = 0; place = 0; done = sym (c .size .ensures) i; lost = ran .result .lost; idle = ran .result .idle };
+      cells = ran .last .0;
+      answers = ran .last .1 .1 .1 .0;
+      log = ran .last .1 .1 .1 .1 .0;
+    }))
+
+same-length-4 : tie.Need-same-length-4
+same-length-4 c = search needs
+
+returns-2 : tie.Need-returns-2
+unfolding refusedResult callOf
+returns-2 c =
+    let a = c .before .before .before .before .before .before .before .before .before .args in
+    let is = c .before .before .validate .ensures in
+    kept _ _ _ _ _ _
+    (refused _ _ _ _ _ (λ e. c .if1 .left (ap (λ (r : Refusal). r .number) is ∙ e))
+    ∙ ap (λ (r : Refusal). refusedResult r (a .cells .now) (a .answers .now) (a .log .now)) (sym is))
+
+pub run-spec : {M : Type 1} → statement M
+run-spec =
+    tie.close
+    (tie.spec
+    validate-requires
+    entries-requires
+    size-requires
+    same-length
+    same-length-2
+    same-length-3
+    returns
+    same-length-4
+    returns-2)

@@ -1,0 +1,152 @@
+// A whole schedule (document 01, "What one step does" and "Where a call is turned away"): a call is
+// judged first, and only then is anything written; each entry then takes one step of the operation
+// that it names, or is idle.
+ghost use mathlib.Core.Path.{_≡_};
+ghost use Prim.Native.Nat.{_≤_};
+ghost use lib.Count.{ones};
+ghost use lib.ListN.{length, replicate, take};
+ghost use Rattle.semantics.specs.Refusals.{runRefusal};
+ghost use Rattle.semantics.specs.Run.{over, machine, callOf, acceptedResult, runResult, LinearizableWords, TotalsWords};
+ghost use Rattle.run.specs.Records.{fresh};
+use semantics::Outcome;
+use step::Event;
+use step::Progress;
+use step::take_step;
+use validate::validate;
+use word::has;
+use word::operation_key;
+use word::room_home;
+use word::size;
+use word::with;
+
+// What the entries come to beside the slices: which operations have finished, how many swaps were
+// lost and how many entries were idle.
+struct Ran {
+    finished: u64,
+    lost: usize,
+    idle: usize,
+}
+
+// An answer of 0, unfinished, for each of n operations.
+fn clear(answers: &mut [u32], n: usize)
+    requires { ⌜ n ≤ length (now answers) ⌝ }
+    ensures { λ _. ⌜ now (answers .exit) ≡ over (replicate n 0) (now (answers .entry)) ⌝ }
+{
+    let mut i = 0;
+    while i < n {
+        answers[i] = 0;
+        i = i + 1;
+    }
+}
+
+// Each operation reads first at the home of its key.
+fn begin(c: u32, operations: &[u64]) -> [Progress; 64]
+    requires { ⌜ length (now operations) ≤ 64 ⌝ }
+    ensures { λ r. ⌜ r ≡ fresh c (now (operations .entry)) ⌝ }
+{
+    let mut records = [Progress::begin(0); 64];
+    let mut i = 0;
+    while i < operations.len() {
+        let key = operation_key(operations[i]);
+        records[i] = Progress::begin(room_home(key as u32, c) as usize);
+        i = i + 1;
+    }
+    records
+}
+
+// Takes the schedule's entries in turn, on a call that is not turned away.
+fn entries(
+    cells: &mut [u32],
+    operations: &[u64],
+    schedule: &[u8],
+    answers: &mut [u32],
+    log: &mut [u8],
+) -> Ran
+    requires { ⌜ runRefusal (callOf (now cells) (now operations) (now schedule) (now answers) (now log)) .number ≡ 0 ⌝ }
+    ensures { λ r. ⌜ acceptedResult (machine (now (cells .entry)) (now (operations .entry)) (now (schedule .entry))) (now (answers .entry)) (now (log .entry))
+        ≡ record {
+          outcome = record { number = 0; place = 0; done = ones (r .finished); lost = r .lost; idle = r .idle };
+          cells = now (cells .exit);
+          answers = now (answers .exit);
+          log = now (log .exit);
+        } ⌝ }
+{
+    clear(answers, operations.len());
+    let mut records = begin(cells.len() as u32, operations);
+    let mut finished = 0;
+    let mut lost = 0;
+    let mut idle = 0;
+    let mut k = 0;
+    while k < schedule.len() {
+        let entry = schedule[k];
+        k = k + 1;
+        if has(finished, entry) {
+            idle = idle + 1;
+            continue;
+        }
+        let i = entry as usize;
+        let stepped = take_step(cells, operations[i], records[i]);
+        let progress = stepped.progress;
+        let event = stepped.event;
+        records[i] = progress;
+        match event {
+            Event::Finished => {
+                answers[i] = progress.answer;
+                log[size(finished)] = entry;
+                finished = with(finished, entry);
+                continue;
+            }
+            Event::Lost => {
+                lost = lost + 1;
+                continue;
+            }
+            _ => {
+                continue;
+            }
+        }
+    }
+    Ran {
+        finished: finished,
+        lost: lost,
+        idle: idle,
+    }
+}
+
+// Runs a schedule: the operations that its entries name take one atomic step each, on the cells.
+//
+// The call is judged first, and one that is turned away alters nothing. Otherwise the cells, an
+// answer for each operation and a log byte for each that finished are written, and what the slices
+// hold past those stays. Whatever the schedule, the finished operations did what a one-at-a-time map
+// does in log order; and with only finds and adds, all finished and cells enough, each room has its
+// starting total and all amounts added to it.
+pub fn run(
+    cells: &mut [u32],
+    operations: &[u64],
+    schedule: &[u8],
+    answers: &mut [u32],
+    log: &mut [u8],
+) -> Outcome
+    ensures result { λ r. ⌜ runResult (now (cells .entry)) (now (operations .entry)) (now (schedule .entry)) (now (answers .entry)) (now (log .entry))
+        ≡ record { outcome = r; cells = now (cells .exit); answers = now (answers .exit); log = now (log .exit) } ⌝ }
+    ensures linearizable { λ r. ⌜ (r .number ≡ 0 → LinearizableWords (now (cells .entry)) (now (operations .entry)) (now (cells .exit)) (now (answers .exit)) (take (r .done) (now (log .exit)))) ⌝ }
+    ensures totals { λ r. ⌜ (r .number ≡ 0 → TotalsWords (now (cells .entry)) (now (operations .entry)) (now (cells .exit)) (r .done)) ⌝ }
+{
+    let refusal = validate(cells, operations, schedule, answers.len(), log.len());
+    if refusal.number == 0 {
+        let ran = entries(cells, operations, schedule, answers, log);
+        return Outcome {
+            number: 0,
+            place: 0,
+            done: size(ran.finished),
+            lost: ran.lost,
+            idle: ran.idle,
+        };
+    }
+    Outcome {
+        number: refusal.number,
+        place: refusal.place,
+        done: 0,
+        lost: 0,
+        idle: 0,
+    }
+}
