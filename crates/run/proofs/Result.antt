@@ -5,8 +5,7 @@ use Prim.Native.Nat.{ℕ}
 use mathlib.Core.List.{List}
 use lib.ListN.{take}
 use borrow.Author.Tests.{eq-eqb, ne-eqb}
-use Rattle.semantics.specs.Refusals.{runRefusal}
-use Rattle.semantics.specs.Run.{Result, machine, callOf, acceptedResult, refusedResult, resultIf, runResult, LinearizableWords, TotalsWords}
+use Rattle.semantics.specs.Run.{Result, machine, refusalOf, acceptedResult, refusedResult, resultIf, runResult, LinearizableWords, TotalsWords}
 use Rattle.semantics.proofs.WordsHold.{linearizable-words, totals-words}
 
 module _ (cells operations schedule answers log : List ℕ) where
@@ -14,13 +13,13 @@ module _ (cells operations schedule answers log : List ℕ) where
   result = runResult cells operations schedule answers log
 
   abbrev refused-with : ℕ
-  refused-with = runRefusal (callOf cells operations schedule answers log) .number
+  refused-with = refusalOf cells operations schedule answers log .number
 
   pub accepted : refused-with ≡ 0 → result ≡ acceptedResult (machine cells operations schedule) answers log
   unfolding runResult resultIf
   accepted e = ap (resultIf cells operations schedule answers log) (eq-eqb refused-with 0 e)
 
-  pub refused : (refused-with ≡ 0 → ⊥) → result ≡ refusedResult (runRefusal (callOf cells operations schedule answers log)) cells answers log
+  pub refused : (refused-with ≡ 0 → ⊥) → result ≡ refusedResult (refusalOf cells operations schedule answers log) cells answers log
   unfolding runResult resultIf
   refused e = ap (resultIf cells operations schedule answers log) (ne-eqb refused-with 0 e)
 

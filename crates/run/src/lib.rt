@@ -5,8 +5,7 @@ ghost use mathlib.Core.Path.{_≡_};
 ghost use Prim.Native.Nat.{_≤_};
 ghost use lib.Count.{ones};
 ghost use lib.ListN.{length, replicate, take};
-ghost use Rattle.semantics.specs.Refusals.{runRefusal};
-ghost use Rattle.semantics.specs.Run.{over, machine, callOf, acceptedResult, runResult, LinearizableWords, TotalsWords};
+ghost use Rattle.semantics.specs.Run.{over, machine, refusalOf, acceptedResult, runResult, LinearizableWords, TotalsWords};
 ghost use Rattle.run.specs.Records.{fresh};
 use semantics::Outcome;
 use step::Event;
@@ -62,7 +61,7 @@ fn entries(
     answers: &mut [u32],
     log: &mut [u8],
 ) -> Ran
-    requires { ⌜ runRefusal (callOf (now cells) (now operations) (now schedule) (now answers) (now log)) .number ≡ 0 ⌝ }
+    requires { ⌜ refusalOf (now cells) (now operations) (now schedule) (now answers) (now log) .number ≡ 0 ⌝ }
     ensures { λ r. ⌜ acceptedResult (machine (now (cells .entry)) (now (operations .entry)) (now (schedule .entry))) (now (answers .entry)) (now (log .entry))
         ≡ record {
           outcome = record { number = 0; place = 0; done = ones (r .finished); lost = r .lost; idle = r .idle };

@@ -34,7 +34,7 @@ unfolding
     Refusals.firstMet Refusals.atFirst Refusals.isRepeated Refusals.isUnreachable Refusals.sizeNotAllowed Refusals.tooMany
     Refusals.tooShort Refusals.badCell Refusals.badOperation Refusals.badEntry Refusals.repeatedKey Refusals.unreachableKey
     Refusals.runConditions Refusals.runRefusal
-    Run.over Run.machine Run.answerOf Run.outcomeOf Run.acceptedResult Run.refusedResult Run.callOf Run.resultIf Run.runResult
+    Run.over Run.machine Run.answerOf Run.outcomeOf Run.acceptedResult Run.refusedResult Run.resultIf Run.runResult
 computed = tt
 
 pub covered : T (Basics.all holds cases)

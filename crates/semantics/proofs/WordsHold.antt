@@ -18,8 +18,8 @@ use Rattle.semantics.specs.Step.{entry, begin, run}
 use Rattle.semantics.specs.Map.{replay, Linearizable}
 use Rattle.semantics.specs.TotalsRule.{TotalsRule, EveryOperationFinishes, amountsAdded, addsTo, expectedFrom, expected}
 use Rattle.semantics.specs.Words.{decode, encode, decodeOperation, answerWord, narrowSetting, isLiveKey, keyOf, totalBits}
-use Rattle.semantics.specs.Refusals.{Call, runRefusal}
-use Rattle.semantics.specs.Run.{Result, over, machine, answerOf, outcomeOf, acceptedResult, refusedResult, callOf, resultIf, runResult, amountIn, roomTotal, replayWords, LinearizableWords, heldSum, TotalsWords}
+use Rattle.semantics.specs.Refusals.{Call, runRefusal, callOf}
+use Rattle.semantics.specs.Run.{Result, over, machine, answerOf, outcomeOf, acceptedResult, refusedResult, resultIf, runResult, amountIn, roomTotal, replayWords, LinearizableWords, heldSum, TotalsWords}
 use Rattle.semantics.proofs.Lists.{foldl-snoc, map-on, map-map}
 use Rattle.semantics.proofs.Tests.{passed as affirm}
 use Rattle.semantics.proofs.Table.{keyed-live, Looked, nowhere, somewhere, looked}
@@ -229,7 +229,7 @@ module _ (call : Call) (ok : Passed call) where
 -- Demands 2 and 3 of every call that is not turned away, as the run leaves it.
 module _ (cells operations schedule answers log : List ℕ) where
   abbrev called : Call
-  called = callOf cells operations schedule answers log
+  called = callOf cells operations schedule (length answers) (length log)
 
   abbrev left : Result
   left = runResult cells operations schedule answers log
@@ -248,19 +248,19 @@ module _ (cells operations schedule answers log : List ℕ) where
 
   -- the log that was written is the first of its slice, one for each finished operation
   written-log : Passed called → take (doneCount (end .rows)) (over (end .log) log) ≡ end .log
-  unfolding over callOf
+  unfolding over
   written-log ok = take-at (end .log) (drop (length (end .log)) log) (doneCount (end .rows)) (sym (lin called ok schedule .counted))
 
   pub linearizable-words : left .outcome .number ≡ 0
       → LinearizableWords cells operations (left .cells) (left .answers) (take (left .outcome .done) (left .log))
-  unfolding acceptedResult outcomeOf callOf
+  unfolding acceptedResult outcomeOf
   linearizable-words e =
       let (ok, q) = accepted e in
       subst (λ (r : Result). LinearizableWords cells operations (r .cells) (r .answers) (take (r .outcome .done) (r .log))) (sym q)
       (rw (written-log ok) (words-linearizable called ok schedule answers))
 
   pub totals-words : left .outcome .number ≡ 0 → TotalsWords cells operations (left .cells) (left .outcome .done)
-  unfolding acceptedResult outcomeOf callOf
+  unfolding acceptedResult outcomeOf
   totals-words e =
       let (ok, q) = accepted e in
       subst (λ (r : Result). TotalsWords cells operations (r .cells) (r .outcome .done)) (sym q) (words-totals called ok schedule)

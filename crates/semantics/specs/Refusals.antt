@@ -32,6 +32,11 @@ pub record Call : Type 0 where
   pub answersLength : ℕ
   pub logLength : ℕ
 
+-- the call that the lent slices, and the lengths of those for answers and log, make
+abbrev pub callOf : List ℕ → List ℕ → List ℕ → ℕ → ℕ → Call
+callOf cells operations schedule answers log =
+    record { cells = cells; operations = operations; schedule = schedule; answersLength = answers; logLength = log }
+
 -- "There are at most 64" rows; "The schedule is a lent slice of bytes, at most 16,384"
 abbrev pub mostOperations : ℕ
 mostOperations = 64

@@ -17,7 +17,7 @@ use Rattle.semantics.specs.Step.{Machine, Row, run, answered, doneCount}
 use Rattle.semantics.specs.Map.{Replay, replay}
 use Rattle.semantics.specs.TotalsRule.{onlyFindsAndAdds, CellsSuffice, amountsAdded}
 use Rattle.semantics.specs.Words.{decode, encode, decodeOperation, answerWord, narrowSetting, isLiveKey, keyOf}
-use Rattle.semantics.specs.Refusals.{Call, runRefusal}
+use Rattle.semantics.specs.Refusals.{callOf, runRefusal}
 
 -- what a run leaves: the returned record, and each lent slice
 pub record Result : Type 0 where
@@ -56,23 +56,16 @@ refusedResult r cells answers log =
     }
 
 module _ (cells operations schedule answers log : List ℕ) where
-  unfoldable pub callOf : Call
-  callOf =
-      record {
-        cells = cells;
-        operations = operations;
-        schedule = schedule;
-        answersLength = length answers;
-        logLength = length log;
-      }
+  abbrev pub refusalOf : Refusal
+  refusalOf = runRefusal (callOf cells operations schedule (length answers) (length log))
 
   unfoldable pub resultIf : Bool → Result
   resultIf true = acceptedResult (machine cells operations schedule) answers log
-  resultIf false = refusedResult (runRefusal callOf) cells answers log
+  resultIf false = refusedResult refusalOf cells answers log
 
   -- "An accepted call gives number 0 and place 0."
   unfoldable pub runResult : Result
-  runResult = resultIf (eqb (runRefusal callOf .number) 0)
+  runResult = resultIf (eqb (refusalOf .number) 0)
 
 -- a room's total in packed cells, if it is present
 unfoldable pub amountIn : Option Total → Option ℕ

@@ -2,13 +2,8 @@
 -- Assumes nothing.
 use Prim.Native.Nat.{ℕ}
 use mathlib.Core.List.{List, [], _∷_}
-use Rattle.semantics.specs.Refusals.{Call, Condition}
+use Rattle.semantics.specs.Refusals.{Call, callOf, Condition}
 use Rattle.semantics.specs.Refusals.{sizeNotAllowed, tooMany, tooShort, badCell, badOperation, badEntry, repeatedKey, unreachableKey}
-
--- the call that the lent slices, and the lengths of those for answers and log, make
-abbrev pub callOf : List ℕ → List ℕ → List ℕ → ℕ → ℕ → Call
-callOf cells operations schedule answers log =
-    record { cells = cells; operations = operations; schedule = schedule; answersLength = answers; logLength = log }
 
 -- "run, slices"
 abbrev pub slicesConditions : Call → List Condition

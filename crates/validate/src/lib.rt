@@ -10,8 +10,8 @@ ghost use lib.ListN.{length, getD, set};
 ghost use Rattle.semantics.specs.Basics.{firstBelow};
 ghost use Rattle.semantics.specs.Sets.{isIn, including};
 ghost use Rattle.semantics.specs.Words.{sizeAllowed, isLiveKey, keyOf, cellAllowed, homeIn, takesAmount, isKind, operationAllowed};
-ghost use Rattle.semantics.specs.Refusals.{firstMet, isRepeated, isUnreachable, runRefusal};
-ghost use Rattle.validate.specs.Parts.{callOf, slicesConditions, wordsConditions, tableConditions};
+ghost use Rattle.semantics.specs.Refusals.{callOf, firstMet, isRepeated, isUnreachable, runRefusal};
+ghost use Rattle.validate.specs.Parts.{slicesConditions, wordsConditions, tableConditions};
 
 // The limits of document 01, "Cells, rows, schedule".
 const MOST_CELLS: usize = 4096;

@@ -11,7 +11,7 @@ use denote.Enum.Declared.{tagOf}
 use borrow.Author.Needs.{needs}
 use Rattle.semantics.specs.Sets.{isIn}
 use Rattle.semantics.specs.Refusals.{Call}
-use Rattle.semantics.specs.Run.{callOf, machine}
+use Rattle.semantics.specs.Run.{machine}
 use Rattle.semantics.proofs.Narrow.{allowed-bounds}
 use Rattle.semantics.proofs.Start.{Passed, accepted-call}
 use Rattle.step.specs.declared.Event.{Event}
@@ -41,7 +41,6 @@ called c =
     }
 
 ok : (c : tie.Start Inv-loop μ-loop) → Passed (called c)
-unfolding callOf
 ok c = accepted-call (called c) (c .pre)
 
 -- where a turn of the loop began

@@ -4,15 +4,13 @@ use mathlib.Core.Path.{_≡_, sym, ap, _∙_}
 use denote.Ref.{now}
 use borrow.Author.Needs.{needs}
 use Rattle.semantics.specs.declared.Refusal.{Refusal}
-use Rattle.semantics.specs.Refusals.{runRefusal}
-use Rattle.semantics.specs.Run.{callOf, refusedResult}
+use Rattle.semantics.specs.Run.{refusalOf, refusedResult}
 use Rattle.run.proofs.Result.{accepted, refused, kept}
 use Rattle.run.proofs.run.Statement.{statement}
 use Rattle.run.proofs.run.Tie as tie
 
 -- a call that is not turned away
-number-0 : (c : tie.Then1) → let a = c .before .before .before .before .before .before .before .before .before .args in runRefusal (callOf (now (a .cells)) (now (a .operations)) (now (a .schedule)) (now (a .answers)) (now (a .log))) .number ≡ 0
-unfolding callOf
+number-0 : (c : tie.Then1) → let a = c .before .before .before .before .before .before .before .before .before .args in refusalOf (now (a .cells)) (now (a .operations)) (now (a .schedule)) (now (a .answers)) (now (a .log)) .number ≡ 0
 number-0 c = sym (ap (λ (r : Refusal). r .number) (c .before .before .validate .ensures)) ∙ c .if1 .taken
 
 validate-requires : tie.Need-validate-requires
@@ -50,7 +48,7 @@ same-length-4 : tie.Need-same-length-4
 same-length-4 c = search needs
 
 returns-2 : tie.Need-returns-2
-unfolding refusedResult callOf
+unfolding refusedResult
 returns-2 c =
     let a = c .before .before .before .before .before .before .before .before .before .args in
     let is = c .before .before .validate .ensures in

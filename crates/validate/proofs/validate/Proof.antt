@@ -1,7 +1,7 @@
 -- `validate::validate` meets its contract: the first part of the table that has a condition met decides.
 -- Assumes nothing.
 use Rattle.semantics.specs.Refusals.{Call}
-use Rattle.validate.specs.Parts.{callOf}
+use Rattle.semantics.specs.Refusals.{callOf}
 use Rattle.validate.proofs.Judged.{by-slices, size-is-allowed, by-words, by-table}
 use borrow.Author.Needs.{needs}
 use Rattle.validate.proofs.validate.Statement.{statement}
