@@ -38,7 +38,7 @@ use Rattle.step.specs.declared.Event.the-variants.{Finished, Lost}
 use Rattle.step.specs.declared.Stepped.{Stepped}
 use Rattle.step.specs.Progress.{Left, stepTaken}
 use Rattle.step.proofs.Represents.{recordOf, record-at, eventOf, step-is}
-use Rattle.run.specs.Records.{blank, atHome, fresh}
+use Rattle.run.specs.Records.{blank, atHome, firstRecords}
 use Rattle.run.proofs.Over.{over-none, over-over, over-get, over-set, over-next, over-length}
 
 -- the record of a row, in c cells
@@ -126,8 +126,8 @@ module _ (call : Call) (ok : Passed call) (answers₀ log₀ : List ℕ) (fits :
       let home = found ∙ sym (ap (λ (z : ℕ). z % c) (add-zero (homeIn c k)) ∙ mod-eq-of-lt (allowed-lawful c (ok .size) .home-below k)) in
       λ j. record { at = home j; passed = 0; holds = false; held = 0; answer = 0 }
 
-  records-first : fresh c (call .operations) ≡ over (map (rowRecord c) (map (rules.freshRow S) (map decodeOperation (call .operations)))) blank
-  unfolding fresh rules.freshRow
+  records-first : firstRecords c (call .operations) ≡ over (map (rowRecord c) (map (rules.freshRow S) (map decodeOperation (call .operations)))) blank
+  unfolding firstRecords rules.freshRow
   records-first =
       let first = rules.freshRow S in
       ap (λ l. over l blank)
@@ -151,7 +151,7 @@ module _ (call : Call) (ok : Passed call) (answers₀ log₀ : List ℕ) (fits :
       go true e = absurd (omega (arith, e))
       go false e = refl
 
-  pub at-start : (answers : List ℕ) (records : List Progress) → answers₀ ≡ over (replicate n 0) answers → records ≡ fresh c (call .operations)
+  pub at-start : (answers : List ℕ) (records : List Progress) → answers₀ ≡ over (replicate n 0) answers → records ≡ firstRecords c (call .operations)
       → At c answers₀ log₀ (after-entries 0) 0 (call .cells) records answers₀ log₀ 0 0 0
   unfolding machine rules.run foldl rules.begin
   at-start answers records cleared begun =
@@ -245,7 +245,7 @@ module _ (call : Call) (ok : Passed call) (answers₀ log₀ : List ℕ) (fits :
         abbrev row : Row Total
         row = getD (m .rows) i (record { operation = decodeOperation 0; state = rules.fresh })
 
-        pub below : i < n
+        below : i < n
         below = subst (λ j. j < n) (sym names) (ok .entries k less)
 
         row-at : getElem? (m .rows) i ≡ some row

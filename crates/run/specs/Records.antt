@@ -16,5 +16,5 @@ blank = replicate 64 (begun 0)
 abbrev pub atHome : ℕ → ℕ → Progress
 atHome c operation = begun (roomHome (operationKey operation) c)
 
-unfoldable pub fresh : ℕ → List ℕ → List Progress
-fresh c operations = over (map (atHome c) operations) blank
+unfoldable pub firstRecords : ℕ → List ℕ → List Progress
+firstRecords c operations = over (map (atHome c) operations) blank

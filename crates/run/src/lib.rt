@@ -6,7 +6,7 @@ ghost use Prim.Native.Nat.{_≤_};
 ghost use lib.Count.{ones};
 ghost use lib.ListN.{length, replicate, take};
 ghost use Rattle.semantics.specs.Run.{over, machine, refusalOf, acceptedResult, runResult, LinearizableWords, TotalsWords};
-ghost use Rattle.run.specs.Records.{fresh};
+ghost use Rattle.run.specs.Records.{firstRecords};
 use semantics::Outcome;
 use step::Event;
 use step::Progress;
@@ -41,7 +41,7 @@ fn clear(answers: &mut [u32], n: usize)
 // Each operation reads first at the home of its key.
 fn begin(c: u32, operations: &[u64]) -> [Progress; 64]
     requires { ⌜ length (now operations) ≤ 64 ⌝ }
-    ensures { λ r. ⌜ r ≡ fresh c (now (operations .entry)) ⌝ }
+    ensures { λ r. ⌜ r ≡ firstRecords c (now (operations .entry)) ⌝ }
 {
     let mut records = [Progress::begin(0); 64];
     let mut i = 0;

@@ -10,7 +10,7 @@ use borrow.Author.Needs.{needs}
 use Rattle.semantics.specs.Run.{over}
 use Rattle.semantics.specs.Words.{roomHome}
 use Rattle.step.specs.Progress.{begun}
-use Rattle.run.specs.Records.{blank, atHome, fresh}
+use Rattle.run.specs.Records.{blank, atHome, firstRecords}
 use Rattle.run.proofs.Over.{over-none, map-next}
 use Rattle.run.proofs.begin.Statement.{statement}
 use Rattle.run.proofs.begin.Tie as tie
@@ -76,7 +76,7 @@ loop-again c =
     )
 
 returns : tie.Need-returns Inv-loop μ-loop
-unfolding fresh
+unfolding firstRecords
 returns c =
     let start = c .before .before .before .before in
     c .before .loop .inv .1 ∙ ap (λ l. over (map (atHome (start .args .c)) l) blank) (take-all (c .before .loop .i) (start .args .operations .now) (omega (arith, c .loop-test .left)))
