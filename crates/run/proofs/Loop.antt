@@ -100,7 +100,7 @@ pub record At (c : ℕ) (answers₀ log₀ : List ℕ) (m : Machine Total) (k : 
   pub few : lost + idle ≤ k
 
 -- of a call that the checks let pass
-module _ (call : Call) (ok : Passed call) (answers₀ log₀ : List ℕ) (fits : length (call .operations) ≤ length log₀) where
+module _ {call : Call} (ok : Passed call) where
   abbrev c : ℕ
   c = length (call .cells)
 
@@ -151,10 +151,10 @@ module _ (call : Call) (ok : Passed call) (answers₀ log₀ : List ℕ) (fits :
       go true e = absurd (omega (arith, e))
       go false e = refl
 
-  pub at-start : (answers : List ℕ) (records : List Progress) → answers₀ ≡ over (replicate n 0) answers → records ≡ firstRecords c (call .operations)
+  pub at-start : {answers₀ log₀ : List ℕ} (answers : List ℕ) {records : List Progress} → answers₀ ≡ over (replicate n 0) answers → records ≡ firstRecords c (call .operations)
       → At c answers₀ log₀ (after-entries 0) 0 (call .cells) records answers₀ log₀ 0 0 0
   unfolding machine rules.run foldl rules.begin
-  at-start answers records cleared begun =
+  at-start {answers₀} {log₀} answers cleared begun =
       record {
         cells-are = sym (encode-decode-all (call .cells) (ok .cells));
         records-are = begun ∙ records-first;
@@ -175,7 +175,7 @@ module _ (call : Call) (ok : Passed call) (answers₀ log₀ : List ℕ) (fits :
       ∙ hold.one-entry call ok (take k (call .schedule)) (getD (call .schedule) k 0)
 
   -- what k entries have come to
-  module _ (k finished lost idle : ℕ) (cells : List ℕ) (records : List Progress) (answers log : List ℕ)
+  module _ {answers₀ log₀ : List ℕ} {k finished lost idle : ℕ} {cells : List ℕ} {records : List Progress} {answers log : List ℕ}
       (H : At c answers₀ log₀ (after-entries k) k cells records answers log finished lost idle) where
     abbrev m : Machine Total
     m = after-entries k
@@ -190,9 +190,9 @@ module _ (call : Call) (ok : Passed call) (answers₀ log₀ : List ℕ) (fits :
     pub answers-long : n ≤ length answers₀ → length answers ≡ length answers₀
     answers-long h = ap length (H .answers-are) ∙ over-length (map answerOf (m .rows)) answers₀ (omega (arith, length-map (m .rows) answerOf, rows-long, h))
 
-    pub log-long : length log ≡ length log₀
+    pub log-long : n ≤ length log₀ → length log ≡ length log₀
     unfolding doneCount
-    log-long =
+    log-long fits =
         let counted = hold.lin call ok (take k (call .schedule)) .counted in
         let some-rows = count-le (λ (r : Row Total). isSome (answered (r .state))) (m .rows) in
         ap length (H .log-is) ∙ over-length (m .log) log₀ (omega (arith, counted, some-rows, rows-long, fits))
@@ -215,7 +215,7 @@ module _ (call : Call) (ok : Passed call) (answers₀ log₀ : List ℕ) (fits :
         })
 
     -- an entry that names row i
-    module _ (i : ℕ) (less : k < length (call .schedule)) (names : i ≡ getD (call .schedule) k 0) where
+    module _ {i : ℕ} (less : k < length (call .schedule)) (names : i ≡ getD (call .schedule) k 0) where
       -- an entry that names a finished row is idle
       pub at-idle : isIn finished i ≡ true → At c answers₀ log₀ (after-entries (k + 1)) (k + 1) cells records answers log finished lost (idle + 1)
       unfolding idled
@@ -309,15 +309,15 @@ module _ (call : Call) (ok : Passed call) (answers₀ log₀ : List ℕ) (fits :
                 (subst (Stands c (row .operation .key)) (steps .1) (packs .rows i row row-at .1))
 
         -- there is room in the log, since row i is not in it
-        pub room : ones finished < length log₀
+        pub room : n ≤ length log₀ → ones finished < length log₀
         unfolding doneCount finishedIn answerIn
-        room =
+        room fits =
             let open-row : isSome (answered (row .state)) ≡ false = sym (ap (λ x. isSome (answerIn x)) row-at) ∙ sym (H .finished-are i) ∙ unfinished in
             let some-left = count-below (λ (r : Row Total). isSome (answered (r .state))) (m .rows) i _ (omega (arith, below, rows-long)) open-row in
             omega (arith, H .size-is, hold.lin call ok (take k (call .schedule)) .counted, some-left, rows-long, fits)
 
         -- the code's result, and the cells that it leaves
-        module _ (result : Stepped) (cells′ : List ℕ) (result-is : result ≡ left .stepped) (stores : cells′ ≡ set cells (getD records i z .at) (left .word)) where
+        module _ {result : Stepped} {cells′ : List ℕ} (result-is : result ≡ left .stepped) (stores : cells′ ≡ set cells (getD records i z .at) (left .word)) where
           -- what the step leaves in the cells and in the records
           cells-then : cells′ ≡ map encode (set (m .cells) place (stepped .cell))
           cells-then =
@@ -421,10 +421,10 @@ module _ (call : Call) (ok : Passed call) (answers₀ log₀ : List ℕ) (fits :
               go true = refl
               go false = H .finished-are j
 
-          pub at-finished : result .event ≡ Finished → (size′ finished′ : ℕ) → size′ ≡ ones finished → finished′ ≡ including finished i
+          pub at-finished : n ≤ length log₀ → result .event ≡ Finished → {size′ finished′ : ℕ} → size′ ≡ ones finished → finished′ ≡ including finished i
               → Then (set answers i (result .progress .answer)) (set log size′ i) finished′ lost
           unfolding logged countLost
-          at-finished e size′ finished′ sized grown =
+          at-finished fits e sized grown =
               let is = finished-turn (stepped .turn) (sym event-is ∙ e) in
               let a = answer-from (stepped .turn) in
               let r = row-then (finishes a) in
@@ -433,7 +433,7 @@ module _ (call : Call) (ok : Passed call) (answers₀ log₀ : List ℕ) (fits :
               (ap₂ (λ x y. set x i y) (H .answers-are) (answer-then a is)
               ∙ over-set (map answerOf (m .rows)) answers₀ i (answerOf r) long
               ∙ ap (λ l. over l answers₀) (sym (map-set answerOf (m .rows) i r)))
-              (ap₂ (λ x n. set x n i) (H .log-is) sized ∙ over-next (m .log) log₀ (ones finished) i (sym (H .size-is)) room)
+              (ap₂ (λ x n. set x n i) (H .log-is) sized ∙ over-next (m .log) log₀ (ones finished) i (sym (H .size-is)) (room fits))
               (λ j. ap (λ f. isIn f j) grown ∙ set-grows a j)
               (ap ones grown ∙ size-including finished i (omega (arith, below, ok .few)) unfinished ∙ omega (arith, H .size-is, length-append (m .log) (i ∷ [])))
               (H .lost-is)

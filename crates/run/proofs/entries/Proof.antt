@@ -43,18 +43,23 @@ called c =
 ok : (c : tie.Start Inv-loop μ-loop) → Passed (called c)
 ok c = accepted-call (called c) (c .pre)
 
--- where a turn of the loop began
+-- where the loop began, and what it has kept so far
 abbrev start : tie.At-loop Inv-loop μ-loop → tie.Start Inv-loop μ-loop
 start c = c .before .before .before .before .before .before .before .before .before .before .before
 
+abbrev turn : tie.Else1 Inv-loop μ-loop → tie.In-loop Inv-loop μ-loop
+turn c = c .before .before .before
+
 -- what an entry names that is not idle
-entry-below : (c : tie.Else1 Inv-loop μ-loop) → let s = start (c .before .before .before .before) in getD (s .args .schedule .now) (c .before .before .before .before .loop .k) 0 < length (s .args .operations .now)
-entry-below c = ok (start (c .before .before .before .before)) .entries (c .before .before .before .before .loop .k) (c .before .before .before .loop-test .taken)
+entry-below : (c : tie.Else1 Inv-loop μ-loop)
+    → let s = start (turn c .before) in getD (s .args .schedule .now) (turn c .before .loop .k) 0 < length (s .args .operations .now)
+entry-below c = ok (start (turn c .before)) .entries (turn c .before .loop .k) (turn c .loop-test .taken)
 
-small : (c : tie.Else1 Inv-loop μ-loop) → getD (start (c .before .before .before .before) .args .schedule .now) (c .before .before .before .before .loop .k) 0 < 64
-small c = omega (arith, entry-below c, ok (start (c .before .before .before .before)) .few)
+small : (c : tie.Else1 Inv-loop μ-loop) → getD (start (turn c .before) .args .schedule .now) (turn c .before .loop .k) 0 < 64
+small c = omega (arith, entry-below c, ok (start (turn c .before)) .few)
 
-unfinished : (c : tie.Else1 Inv-loop μ-loop) → isIn (c .before .before .before .before .loop .finished) (getD (start (c .before .before .before .before) .args .schedule .now) (c .before .before .before .before .loop .k) 0) ≡ false
+unfinished : (c : tie.Else1 Inv-loop μ-loop)
+    → isIn (turn c .before .loop .finished) (getD (start (turn c .before) .args .schedule .now) (turn c .before .loop .k) 0) ≡ false
 unfinished c = sym (c .before .has .ensures) ∙ c .if1 .left
 
 -- the answers that are cleared are as long as those lent
@@ -77,7 +82,7 @@ begin-requires : tie.Need-begin-requires Inv-loop μ-loop
 begin-requires c κs = ok (c .before .before .before .before .before .before .before .before .before) .few
 
 loop-holds : tie.Need-loop-holds Inv-loop μ-loop
-loop-holds c = (omega arith, at-start _ (ok (c .before .before .before .before .before .before .before .before .before .before)) _ _ (ok (c .before .before .before .before .before .before .before .before .before .before) .log) _ _ (c .before .before .before .clear .ensures) (c .begin .ensures))
+loop-holds c = (omega arith, at-start (ok (c .before .before .before .before .before .before .before .before .before .before)) _ (c .before .before .before .clear .ensures) (c .begin .ensures))
 
 shared-slice-read-entry : tie.Need-shared-slice-read-entry Inv-loop μ-loop
 shared-slice-read-entry c = search needs
@@ -96,10 +101,9 @@ loop-less c = search needs
 
 loop-again : tie.Need-loop-again Inv-loop μ-loop
 loop-again c =
-    let turn = c .before .before .before in
-    let s = start (turn .before) in (
-      omega (arith, turn .loop-test .taken),
-      at-idle _ (ok s) _ _ (ok s .log) _ _ _ _ _ _ _ _ (turn .before .loop .inv .1) _ (turn .loop-test .taken) refl (sym (c .before .has .ensures) ∙ c .if1 .taken),
+    let t = c .before .before .before in (
+      omega (arith, t .loop-test .taken),
+      at-idle (ok (start (t .before))) (t .before .loop .inv .1) (t .loop-test .taken) refl (sym (c .before .has .ensures) ∙ c .if1 .taken),
     )
 
 cast-i : tie.Need-cast-i Inv-loop μ-loop
@@ -134,10 +138,9 @@ mul-answers c = record { fits = omega (arith, small (c .before .before .before .
 
 slice-write-answers : tie.Need-slice-write-answers Inv-loop μ-loop
 slice-write-answers c =
-    let e = c .before .before .before .before .before .before .before .before .before in
-    let turn = e .before .before .before in
-    let s = start (turn .before) in
-    omega (arith, entry-below e, answers-long _ (ok s) _ _ (ok s .log) _ _ _ _ _ _ _ _ (turn .before .loop .inv .1) (omega (arith, cleared-long (turn .before), ok s .answers)), cleared-long (turn .before), ok s .answers)
+    let a = turn (c .before .before .before .before .before .before .before .before .before) .before in
+    let fits = ok (start a) .answers in
+    omega (arith, entry-below (c .before .before .before .before .before .before .before .before .before), answers-long (ok (start a)) (a .loop .inv .1) (omega (arith, cleared-long a, fits)), cleared-long a, fits)
 
 size-requires : tie.Need-size-requires Inv-loop μ-loop
 size-requires c κs = search needs
@@ -145,10 +148,14 @@ size-requires c κs = search needs
 slice-write-log : tie.Need-slice-write-log Inv-loop μ-loop
 slice-write-log c =
     let e = c .before .before .before .before .before .before .before .before .before .before in
-    let turn = e .before .before .before in
-    let s = start (turn .before) in
-    let H = turn .before .loop .inv .1 in
-    omega (arith, c .size .ensures, log-long _ (ok s) _ _ (ok s .log) _ _ _ _ _ _ _ _ H, room _ (ok s) _ _ (ok s .log) _ _ _ _ _ _ _ _ H _ (turn .loop-test .taken) refl (begun 0) (unfinished e))
+    let a = turn e .before in
+    let o = ok (start a) in
+    omega (
+      arith,
+      c .size .ensures,
+      log-long o (a .loop .inv .1) (o .log),
+      room o (a .loop .inv .1) (turn e .loop-test .taken) refl (begun 0) (unfinished e) (o .log),
+    )
 
 with-requires : tie.Need-with-requires Inv-loop μ-loop
 with-requires c κs = search needs
@@ -160,11 +167,11 @@ loop-again-2 : tie.Need-loop-again-2 Inv-loop μ-loop
 loop-again-2 c =
     let taken = c .before .before .before .before .before .before .before in
     let e = taken .before .before .before .before in
-    let turn = e .before .before .before in
-    let s = start (turn .before) in (
-      omega (arith, turn .loop-test .taken),
-      at-finished _ (ok s) _ _ (ok s .log) _ _ _ _ _ _ _ _ (turn .before .loop .inv .1) _ (turn .loop-test .taken) refl _ (unfinished e) _ _
-          (taken .take-step .ensures .0) (taken .take-step .ensures .1) (c .before .before .enum-told .given .1) _ _ (c .before .size .ensures) (c .with .ensures),
+    let a = turn e .before in
+    let o = ok (start a) in (
+      omega (arith, turn e .loop-test .taken),
+      at-finished o (a .loop .inv .1) (turn e .loop-test .taken) refl _ (unfinished e) (taken .take-step .ensures .0) (taken .take-step .ensures .1) (o .log)
+          (c .before .before .enum-told .given .1) (c .before .size .ensures) (c .with .ensures),
     )
 
 enum-told-2 : tie.Need-enum-told-2 Inv-loop μ-loop
@@ -172,8 +179,8 @@ enum-told-2 c = search needs
 
 add-lost : tie.Need-add-lost Inv-loop μ-loop
 add-lost c =
-    let turn = c .before .before .before .before .before .before .before .before .before .before .before .before in
-    record { fits = omega (arith, turn .before .loop .inv .1 .few, turn .loop-test .taken, ok (start (turn .before)) .short) }
+    let t = turn (c .before .before .before .before .before .before .before .before .before) in
+    record { fits = omega (arith, t .before .loop .inv .1 .few, t .loop-test .taken, ok (start (t .before)) .short) }
 
 loop-less-3 : tie.Need-loop-less-3 Inv-loop μ-loop
 loop-less-3 c = search needs
@@ -182,11 +189,10 @@ loop-again-3 : tie.Need-loop-again-3 Inv-loop μ-loop
 loop-again-3 c =
     let taken = c .before .before .before .before .before in
     let e = taken .before .before .before .before in
-    let turn = e .before .before .before in
-    let s = start (turn .before) in (
-      omega (arith, turn .loop-test .taken),
-      at-lost _ (ok s) _ _ (ok s .log) _ _ _ _ _ _ _ _ (turn .before .loop .inv .1) _ (turn .loop-test .taken) refl _ (unfinished e) _ _
-          (taken .take-step .ensures .0) (taken .take-step .ensures .1) (c .enum-told2 .given .1),
+    let a = turn e .before in (
+      omega (arith, turn e .loop-test .taken),
+      at-lost (ok (start a)) (a .loop .inv .1) (turn e .loop-test .taken) refl _ (unfinished e) (taken .take-step .ensures .0) (taken .take-step .ensures .1)
+          (c .enum-told2 .given .1),
     )
 
 loop-less-4 : tie.Need-loop-less-4 Inv-loop μ-loop
@@ -197,32 +203,25 @@ loop-again-4 c =
     let rest : List ℕ = 0 ∷ 1 ∷ 4 ∷ [] in
     let taken = c .before .before .before .before in
     let e = taken .before .before .before .before in
-    let turn = e .before .before .before in
-    let s = start (turn .before) in (
-      omega (arith, turn .loop-test .taken),
-      at-other _ (ok s) _ _ (ok s .log) _ _ _ _ _ _ _ _ (turn .before .loop .inv .1) _ (turn .loop-test .taken) refl _ (unfinished e) _ _
-          (taken .take-step .ensures .0) (taken .take-step .ensures .1) (is-none rest (c .match .keys3) (miss rest 3 tt)) (is-none rest (c .match .keys3) (miss rest 2 tt)),
+    let a = turn e .before in (
+      omega (arith, turn e .loop-test .taken),
+      at-other (ok (start a)) (a .loop .inv .1) (turn e .loop-test .taken) refl _ (unfinished e) (taken .take-step .ensures .0) (taken .take-step .ensures .1)
+          (is-none rest (c .match .keys3) (miss rest 3 tt)) (is-none rest (c .match .keys3) (miss rest 2 tt)),
     )
 
 same-length : tie.Need-same-length Inv-loop μ-loop
-same-length c =
-    let s = start (c .before) in
-    cells-long _ (ok s) _ _ (ok s .log) _ _ _ _ _ _ _ _ (c .before .loop .inv .1)
+same-length c = cells-long (ok (start (c .before))) (c .before .loop .inv .1)
 
 same-length-2 : tie.Need-same-length-2 Inv-loop μ-loop
 same-length-2 c =
-    let s = start (c .before) in
-    answers-long _ (ok s) _ _ (ok s .log) _ _ _ _ _ _ _ _ (c .before .loop .inv .1) (omega (arith, cleared-long (c .before), ok s .answers)) ∙ cleared-long (c .before)
+    let o = ok (start (c .before)) in
+    answers-long o (c .before .loop .inv .1) (omega (arith, cleared-long (c .before), o .answers)) ∙ cleared-long (c .before)
 
 same-length-3 : tie.Need-same-length-3 Inv-loop μ-loop
-same-length-3 c =
-    let s = start (c .before) in
-    log-long _ (ok s) _ _ (ok s .log) _ _ _ _ _ _ _ _ (c .before .loop .inv .1)
+same-length-3 c = let o = ok (start (c .before)) in log-long o (c .before .loop .inv .1) (o .log)
 
 returns : tie.Need-returns Inv-loop μ-loop
-returns c =
-    let s = start (c .before) in
-    at-end _ (ok s) _ _ (ok s .log) _ _ _ _ _ _ _ _ (c .before .loop .inv .1) (c .loop-test .left) _ (c .before .before .before .before .before .clear .ensures)
+returns c = at-end (ok (start (c .before))) (c .before .loop .inv .1) (c .loop-test .left) _ (c .before .before .before .before .before .clear .ensures)
 
 pub entries-spec : {M : Type 1} → statement M
 entries-spec =
