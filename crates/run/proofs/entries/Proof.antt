@@ -10,7 +10,7 @@ use types.Run.{OneOf, miss}
 use denote.Enum.Declared.{tagOf}
 use borrow.Author.Needs.{needs}
 use Rattle.semantics.specs.Sets.{isIn}
-use Rattle.semantics.specs.Refusals.{Call}
+use Rattle.semantics.specs.Refusals.{Call, callOf}
 use Rattle.semantics.specs.Run.{machine}
 use Rattle.semantics.proofs.Narrow.{allowed-bounds}
 use Rattle.semantics.proofs.Start.{Passed, accepted-call}
@@ -32,18 +32,13 @@ abbrev μ-loop : tie.MeasureT-loop
 -- the call, and that the checks let it pass
 abbrev called : tie.Start Inv-loop μ-loop → Call
 called c =
-    record {
-      cells = c .args .cells .now;
-      operations = c .args .operations .now;
-      schedule = c .args .schedule .now;
-      answersLength = length (c .args .answers .now);
-      logLength = length (c .args .log .now);
-    }
+    let a = c .args in
+    callOf (a .cells .now) (a .operations .now) (a .schedule .now) (length (a .answers .now)) (length (a .log .now))
 
 ok : (c : tie.Start Inv-loop μ-loop) → Passed (called c)
 ok c = accepted-call (called c) (c .pre)
 
--- where the loop began, and what it has kept so far
+-- the start of the function as the loop sees it, and the turn of an entry that is not idle
 abbrev start : tie.At-loop Inv-loop μ-loop → tie.Start Inv-loop μ-loop
 start c = c .before .before .before .before .before .before .before .before .before .before .before
 
