@@ -1,6 +1,7 @@
 // The run's refusals 1 to 8 (document 01, "Where a call is turned away"), judged in table order. Each
-// of 4 to 8 is a search in one pass: it gives the first index that meets the condition, which is the
-// place, or the length of the slice where none does.
+// of 4 to 8 is a search along its slice: it gives the first index that meets the condition, which is
+// the place, or the length of the slice where none does. Before 8 goes along the cells it counts back
+// from the last one; no search looks at a cell more often than that.
 use semantics::Refusal;
 ghost use mathlib.Core.Path.{_≡_};
 ghost use mathlib.Core.Bool.{true, not, _||_, _&&_};
