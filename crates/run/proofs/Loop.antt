@@ -39,7 +39,7 @@ use Rattle.step.specs.declared.Stepped.{Stepped}
 use Rattle.step.specs.Progress.{Left, stepTaken}
 use Rattle.step.proofs.Represents.{recordOf, record-at, eventOf, step-is}
 use Rattle.run.specs.Records.{blank, atHome, firstRecords}
-use Rattle.run.proofs.Over.{over-none, over-over, over-get, over-set, over-next, over-length}
+use Rattle.semantics.proofs.Over.{over-none, over-over, over-get, over-set, over-next, over-length}
 
 -- the record of a row, in c cells
 abbrev rowRecord : ℕ → Row Total → Progress

@@ -4,14 +4,15 @@
 ghost use mathlib.Core.Path.{_≡_};
 ghost use Prim.Native.Nat.{_≤_};
 ghost use lib.Count.{ones};
-ghost use lib.ListN.{length, replicate, take};
-ghost use Rattle.semantics.specs.Run.{over, machine, refusalOf, acceptedResult, runResult, LinearizableWords, TotalsWords};
+ghost use lib.ListN.{length, take};
+ghost use Rattle.semantics.specs.Run.{machine, refusalOf, acceptedResult, runResult, LinearizableWords, TotalsWords};
 ghost use Rattle.run.specs.Records.{firstRecords};
 use semantics::Outcome;
 use step::Event;
 use step::Progress;
 use step::take_step;
 use validate::validate;
+use word::clear;
 use word::has;
 use word::operation_key;
 use word::room_home;
@@ -24,18 +25,6 @@ struct Ran {
     finished: u64,
     lost: usize,
     idle: usize,
-}
-
-// An answer of 0, unfinished, for each of n operations.
-fn clear(answers: &mut [u32], n: usize)
-    requires { ⌜ n ≤ length (now answers) ⌝ }
-    ensures { λ _. ⌜ now (answers .exit) ≡ over (replicate n 0) (now (answers .entry)) ⌝ }
-{
-    let mut i = 0;
-    while i < n {
-        answers[i] = 0;
-        i = i + 1;
-    }
 }
 
 // Each operation reads first at the home of its key.
@@ -70,7 +59,8 @@ fn entries(
           log = now (log .exit);
         } ⌝ }
 {
-    clear(answers, operations.len());
+    let n = operations.len();
+    clear(&mut answers[..n]);
     let mut records = begin(cells.len() as u32, operations);
     let mut finished = 0;
     let mut lost = 0;

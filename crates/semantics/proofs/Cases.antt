@@ -13,13 +13,19 @@ use Rattle.semantics.specs.Step as Step
 use Rattle.semantics.specs.TotalsRule as TotalsRule
 use Rattle.semantics.specs.Refusals as Refusals
 use Rattle.semantics.specs.Run as Run
+use Rattle.semantics.specs.Text as Text
+use Rattle.semantics.specs.Records as Records
+use Rattle.semantics.specs.RunFile as RunFile
+use Rattle.semantics.specs.RunFile.{Contents}
+use Rattle.semantics.specs.Listing as Listing
+use Rattle.semantics.specs.Response as Response
 use Rattle.semantics.proofs.WordsHold.{totals-words}
-use Rattle.semantics.specs.Cases.{Job, resultOf, holds, leftBy, sameList, cases, inFull, longer, Meets}
+use Rattle.semantics.specs.Cases.{resultOf, holds, leftBy, sameList, cases, inFull, inFullFile, inFullText, goneFile, goneText, longer, Meets}
 
 -- every definition that a run computes with: to unfold `computed` is to unfold them all
 unfoldable pub computed : Unit {0}
 unfolding
-    resultOf holds leftBy sameList cases inFull longer
+    resultOf holds leftBy sameList cases inFull inFullFile inFullText goneFile goneText longer
     Totals.heldAt Totals.plusAt Totals.narrow Totals.sameTotal
     Cells.codeOf Cells.totalOf Cells.keyed Cells.lookup Cells.isEmpty Cells.usedCells
     Basics.orElse Basics.all Basics.any Basics.count Basics.foldl Basics.isSome Basics.firstFrom Basics.firstBelow Basics.someBelow
@@ -35,6 +41,14 @@ unfolding
     Refusals.tooShort Refusals.badCell Refusals.badOperation Refusals.badEntry Refusals.repeatedKey Refusals.unreachableKey
     Refusals.runConditions Refusals.runRefusal
     Run.over Run.machine Run.answerOf Run.outcomeOf Run.acceptedResult Run.refusedResult Run.resultIf Run.runResult
+    Text.text Text.decimalIn Text.decimal Text.textsBelow
+    Records.faultAt Records.goesOn Records.recordsFrom Records.records Records.recordConditions
+    RunFile.hasMark RunFile.markAt RunFile.partOf RunFile.mayFollow RunFile.sizeOf RunFile.isBodyWrong RunFile.isOneTooMany RunFile.past
+    RunFile.markCut RunFile.markWrong RunFile.bodyCut RunFile.bodyWrong RunFile.oneTooMany RunFile.conditionsAt RunFile.nextOf
+    RunFile.sliceTooShort RunFile.fileTooLong RunFile.readerConditions RunFile.readerRefusal RunFile.loaded RunFile.load RunFile.contents
+    Listing.kindWord Listing.codeWord Listing.totalText Listing.refusalText Listing.countsText Listing.operationText
+    Listing.answerText Listing.rowText Listing.logText Listing.contentsText Listing.cellText Listing.runText Listing.listing
+    Response.runOf Response.listed Response.response
 computed = tt
 
 pub covered : T (Basics.all holds cases)
@@ -48,7 +62,7 @@ met = (
   record { accepted = refl; only = tt; finished = refl; suffice = lit≤ tt },
 )
 
-pub speaks : (j : Job) → Meets j → (k : ℕ)
+pub speaks : (j : Contents) → Meets j → (k : ℕ)
     → Run.roomTotal k (resultOf j .cells) ≡ Run.heldSum (Run.roomTotal k (j .cells)) (TotalsRule.amountsAdded k (map Words.decodeOperation (j .operations)))
 unfolding resultOf Run.TotalsWords
 speaks j h =

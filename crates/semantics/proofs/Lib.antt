@@ -1,5 +1,6 @@
 pub mod Tests
 pub mod Lists
+pub mod Over
 pub mod Counts
 pub mod Laws
 pub mod Table
@@ -11,6 +12,8 @@ pub mod TotalsHold
 pub mod Narrow
 pub mod Words
 pub mod Start
+pub mod Records
 pub mod RunPacks
 pub mod WordsHold
+pub mod Bounded
 pub mod Cases

@@ -2,7 +2,7 @@
 -- from each condition of the run's table that is not met, and from all of them that the starting cells are as Laws.antt says and that cells
 -- and operations can be packed.
 -- Assumes nothing.
-use mathlib.Core.Path.{_≡_, refl, sym, subst, _∙_}
+use mathlib.Core.Path.{_≡_, refl, sym, ap, subst, _∙_}
 use Prim.Native.Nat.{ℕ, zero, suc, _+_, _-_, _%_, _≤_, _<_, suc-le-suc}
 use mathlib.Core.Bool.{Bool, true, false, cond, _||_, true≢false}
 use mathlib.Core.List.{List, [], _∷_, _++_, map}
@@ -161,9 +161,40 @@ unfolding firstMet
 met-late [] ds h = refl
 met-late (c ∷ more) ds h = rw (h .0) (met-late more ds (h .1))
 
+-- where none of a table is met, none of its first part is
+pub early-accepts : (cs ds : List Condition) → firstMet (cs ++ ds) .number ≡ 0 → firstMet cs .number ≡ 0
+early-accepts cs ds e = elim (ℕ-discrete (firstMet cs .number) 0) [
+  | yes z ↦ z
+  | no h ↦ ap (λ (r : Refusal). r .number) (sym (met-early cs ds h)) ∙ e
+]
+
+-- a table of one condition more
+pub met-here : (c : Condition) (more : List Condition) → c .met ≡ true → firstMet (c ∷ more) ≡ record { number = c .number; place = c .place }
+unfolding firstMet
+met-here c more e = rw e
+
 pub met-none : firstMet [] ≡ record { number = 0; place = 0 }
 unfolding firstMet
 met-none = refl
+
+-- conditions of one place: the first that is met has it
+abbrev pub Placed : ℕ → List Condition → Type 0
+Placed at [] = Unit
+Placed at (c ∷ more) = (c .place ≡ at) × Placed at more
+
+pub met-placed : (at : ℕ) (cs : List Condition) → Placed at cs → (firstMet cs .number ≡ 0 → ⊥) → firstMet cs ≡ record { number = firstMet cs .number; place = at }
+unfolding firstMet
+met-placed at [] p h = absurd (h refl)
+met-placed at (c ∷ more) p h = go (c .met) h (met-placed at more (p .1))
+  where
+    refusal : Refusal
+    refusal = record { number = c .number; place = c .place }
+
+    go : (b : Bool) → (cond b refusal (firstMet more) .number ≡ 0 → ⊥)
+        → ((firstMet more .number ≡ 0 → ⊥) → firstMet more ≡ record { number = firstMet more .number; place = at })
+        → cond b refusal (firstMet more) ≡ record { number = cond b refusal (firstMet more) .number; place = at }
+    go true h r = λ i. record { number = c .number; place = p .0 i }
+    go false h r = r h
 
 -- a table that opens with a search, whose answer is r
 module _ (number n : ℕ) (test : ℕ → Bool) (more : List Condition) (r : ℕ) (e : r ≡ firstBelow n test) where

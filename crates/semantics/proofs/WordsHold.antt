@@ -237,7 +237,7 @@ module _ (cells operations schedule answers log : List ℕ) where
   abbrev end : Machine Total
   end = machine cells operations schedule
 
-  accepted : left .outcome .number ≡ 0 → Passed called × (left ≡ acceptedResult end answers log)
+  pub accepted : left .outcome .number ≡ 0 → Passed called × (left ≡ acceptedResult end answers log)
   unfolding runResult resultIf refusedResult
   accepted = go (eqb (runRefusal called .number) 0) refl
     where

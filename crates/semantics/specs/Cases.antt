@@ -12,6 +12,9 @@ use Rattle.semantics.specs.Totals.{plusAt, narrow, narrowCeiling}
 use Rattle.semantics.specs.TotalsRule.{onlyFindsAndAdds, CellsSuffice}
 use Rattle.semantics.specs.Words.{roomHome, roomSum, decode, decodeOperation, narrowSetting}
 use Rattle.semantics.specs.Run.{Result, runResult}
+use Rattle.semantics.specs.Text.{text}
+use Rattle.semantics.specs.RunFile.{Contents}
+use Rattle.semantics.specs.Response.{response}
 
 -- words as the document's cases write them: a cell's key and total; an operation's kind, key and amount; an answer's code and total
 abbrev cell : ℕ → ℕ → ℕ
@@ -36,12 +39,7 @@ abbrev table : ℕ → List Placed → List ℕ
 table c [] = replicate c 0
 table c (p ∷ more) = set (table c more) (p .number) (cell (p .key) (p .total))
 
--- what a run is made of, and what it leaves
-pub record Job : Type 0 where
-  pub cells : List ℕ
-  pub operations : List ℕ
-  pub schedule : List ℕ
-
+-- what a run leaves
 pub record Left : Type 0 where
   pub cells : List ℕ
   pub answers : List ℕ
@@ -50,13 +48,14 @@ pub record Left : Type 0 where
   pub lost : ℕ
   pub idle : ℕ
 
-abbrev job : List ℕ → List ℕ → List ℕ → Job
+-- what a run is made of
+abbrev job : List ℕ → List ℕ → List ℕ → Contents
 job cells operations schedule = record { cells = cells; operations = operations; schedule = schedule }
 
 abbrev left : List ℕ → List ℕ → List ℕ → ℕ → ℕ → ℕ → Left
 left cells answers log done lost idle = record { cells = cells; answers = answers; log = log; done = done; lost = lost; idle = idle }
 
-unfoldable pub resultOf : Job → Result
+unfoldable pub resultOf : Contents → Result
 resultOf j =
     let slice : List ℕ = replicate (length (j .operations)) 9 in
     runResult (j .cells) (j .operations) (j .schedule) slice slice
@@ -67,9 +66,11 @@ pub data Case : Type 0 where
   -- the sum of two totals, and whether it is pinned
   sumIs : ℕ → ℕ → ℕ → Bool → Case
   -- what a run leaves
-  leaves : Job → Left → Case
+  leaves : Contents → Left → Case
   -- the number and the place of a refusal of cells, with no operations
   refused : List ℕ → ℕ → ℕ → Case
+  -- what is written for a file
+  writes : List ℕ → List ℕ → Case
 
 unfoldable pub sameList : List ℕ → List ℕ → Bool
 sameList [] [] = true
@@ -88,11 +89,53 @@ holds (homeIs k c h) = eqb (roomHome k c) h
 holds (sumIs a b s p) = eqb (roomSum a b) s && Bool·beq (plusAt narrowCeiling (narrow a) (narrow b) .pinned) p
 holds (leaves j l) = leftBy 0 0 l (resultOf j)
 holds (refused cells number place) = leftBy number place (left cells [] [] 0 0 0) (resultOf (job cells [] []))
+holds (writes file expected) = sameList (response file) expected
 
 -- "A run in full": OP records of kind 4 and the rows of the one SC record
-unfoldable pub inFull : Job
+unfoldable pub inFull : Contents
 inFull =
     job (table 8 []) (operation 4 1 40 ∷ operation 4 9 25 ∷ operation 4 1 65500 ∷ []) (0 ∷ 1 ∷ 2 ∷ 0 ∷ 1 ∷ 2 ∷ 1 ∷ 1 ∷ 2 ∷ 2 ∷ 1 ∷ 0 ∷ [])
+
+-- "Input, in hexadecimal"
+unfoldable pub inFullFile : List ℕ
+inFullFile =
+    (0x54 ∷ 0x42 ∷ 0x03 ∷ [])
+    ++ (0x4F ∷ 0x50 ∷ 0x04 ∷ 0x00 ∷ 0x01 ∷ 0x00 ∷ 0x28 ∷ [])
+    ++ (0x4F ∷ 0x50 ∷ 0x04 ∷ 0x00 ∷ 0x09 ∷ 0x00 ∷ 0x19 ∷ [])
+    ++ (0x4F ∷ 0x50 ∷ 0x04 ∷ 0x00 ∷ 0x01 ∷ 0xFF ∷ 0xDC ∷ [])
+    ++ (0x53 ∷ 0x43 ∷ 0x0C ∷ 0x00 ∷ 0x01 ∷ 0x02 ∷ 0x00 ∷ 0x01 ∷ 0x02 ∷ 0x01 ∷ 0x01 ∷ 0x02 ∷ 0x02 ∷ 0x01 ∷ 0x00 ∷ [])
+
+-- "It writes exactly"
+unfoldable pub inFullText : List ℕ
+inFullText =
+    text "rows 3 done 3 lost 2 idle 1\n"
+    ++ text "row 0 add 1 40 inserted 0\n"
+    ++ text "row 1 add 9 25 inserted 0\n"
+    ++ text "row 2 add 1 65500 changed 40\n"
+    ++ text "log 0 2 1\n"
+    ++ text "cell 4 1 pinned\n"
+    ++ text "cell 5 9 25\n"
+
+-- the fourth case and a refused one as files: "a tombstone as `cell 4 gone`", "A refusal is one line, `refused 8 at 5`"
+abbrev cellRecord : ℕ → ℕ → ℕ → List ℕ
+cellRecord n k t = text "CL" ++ (0 ∷ n ∷ 0 ∷ k ∷ 0 ∷ t ∷ [])
+
+abbrev operationRecord : ℕ → ℕ → ℕ → List ℕ
+operationRecord kind k amount = text "OP" ++ (kind ∷ 0 ∷ k ∷ 0 ∷ amount ∷ [])
+
+unfoldable pub goneFile : List ℕ
+goneFile =
+    text "TB" ++ (3 ∷ []) ++ cellRecord 4 1 40 ++ cellRecord 5 9 25 ++ operationRecord 5 1 0 ++ operationRecord 2 9 7 ++ text "SC"
+    ++ (4 ∷ 0 ∷ 0 ∷ 1 ∷ 1 ∷ [])
+
+unfoldable pub goneText : List ℕ
+goneText =
+    text "rows 2 done 2 lost 0 idle 0\n"
+    ++ text "row 0 remove 1 0 removed 40\n"
+    ++ text "row 1 insert 9 7 present 25\n"
+    ++ text "log 0 1\n"
+    ++ text "cell 4 gone\n"
+    ++ text "cell 5 9 25\n"
 
 -- "Keys 1 to 8 each at home fill the table." Their totals are left open: 10 times the key here.
 abbrev fullTable : List ℕ
@@ -108,9 +151,11 @@ cases =
     -- "The run in full."
     ∷ leaves inFull
     (left (table 8 (at 4 1 65535 ∷ at 5 9 25 ∷ [])) (answer 2 0 ∷ answer 2 0 ∷ answer 4 40 ∷ []) (0 ∷ 2 ∷ 1 ∷ []) 3 2 1)
+    ∷ writes inFullFile inFullText
     -- "Cells 4 = (1, 40), 5 = (9, 25); rows remove 1, insert (9, 7); schedule 0 0 1 1: removed 40, present 25, cell 4 gone."
     ∷ leaves (job (table 8 (at 4 1 40 ∷ at 5 9 25 ∷ [])) (operation 5 1 0 ∷ operation 2 9 7 ∷ []) (0 ∷ 0 ∷ 1 ∷ 1 ∷ []))
     (left (table 8 (at 4 65535 0 ∷ at 5 9 25 ∷ [])) (answer 5 40 ∷ answer 3 25 ∷ []) (0 ∷ 1 ∷ []) 2 0 0)
+    ∷ writes goneFile goneText
     -- "Cell 4 = (1, 40); rows add (1, 5), add (1, 7); schedule 0 1 0 1 1 1: changed 40, changed 45, total 52, lost 1."
     ∷ leaves (job (table 8 (at 4 1 40 ∷ [])) (operation 4 1 5 ∷ operation 4 1 7 ∷ []) (0 ∷ 1 ∷ 0 ∷ 1 ∷ 1 ∷ 1 ∷ []))
     (left (table 8 (at 4 1 52 ∷ [])) (answer 4 40 ∷ answer 4 45 ∷ []) (0 ∷ 1 ∷ []) 2 1 0)
@@ -125,6 +170,7 @@ cases =
     -- "Cell 4 empty, cell 5 = (9, 25): refused 8 at 5. Key 1 in cells 4 and 5: refused 7 at 5."
     ∷ refused (table 8 (at 5 9 25 ∷ [])) 8 5
     ∷ refused (table 8 (at 4 1 40 ∷ at 5 1 40 ∷ [])) 7 5
+    ∷ writes (text "TB" ++ (3 ∷ []) ++ cellRecord 5 9 25) (text "refused 8 at 5\n")
     -- "4 or 12 cells: refused 1."
     ∷ refused (table 4 []) 1 0
     ∷ refused (table 12 []) 1 0
@@ -136,7 +182,7 @@ abbrev rounds : ℕ → List ℕ → List ℕ
 rounds zero l = []
 rounds (suc n) l = l ++ rounds n l
 
-unfoldable pub longer : Job
+unfoldable pub longer : Contents
 longer =
     job (table 16 (at 8 65535 0 ∷ at 9 1 40 ∷ at 14 16 5 ∷ at 15 8 65535 ∷ []))
     (operation 4 1 100
@@ -153,7 +199,7 @@ longer =
     (rounds 8 (0 ∷ 1 ∷ 2 ∷ 3 ∷ 4 ∷ 5 ∷ 6 ∷ 7 ∷ 8 ∷ 9 ∷ []))
 
 -- all that demand 3 asks of a run
-pub record Meets (j : Job) : Type 0 where
+pub record Meets (j : Contents) : Type 0 where
   pub accepted : resultOf j .outcome .number ≡ 0
   pub only : T (onlyFindsAndAdds (map decodeOperation (j .operations)))
   pub finished : resultOf j .outcome .done ≡ length (j .operations)

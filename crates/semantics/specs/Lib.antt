@@ -9,4 +9,9 @@ pub mod Map
 pub mod TotalsRule
 pub mod Refusals
 pub mod Run
+pub mod Text
+pub mod Records
+pub mod RunFile
+pub mod Listing
+pub mod Response
 pub mod Cases

@@ -17,3 +17,41 @@ pub struct Outcome {
     pub lost: usize,
     pub idle: usize,
 }
+
+// A mark that opens a record of a run file: TB, CL, OP, SC, or none of them.
+pub enum Mark {
+    Table,
+    Cell,
+    Operation,
+    Schedule,
+    Unknown,
+}
+
+// What a reader of a run file carries from record to record: the offset of the record that follows,
+// the part of the file that the last one belongs to (0 before the first), the number of cells, the
+// lowest cell number that the next CL record may name, and how many operations and entries came so far.
+pub struct Position {
+    pub at: usize,
+    pub part: u8,
+    pub size: usize,
+    pub lowest: usize,
+    pub operations: usize,
+    pub entries: usize,
+}
+
+// What the reader of a run file returns beside the slices that it fills: whether the file was turned
+// away, and how many cells, operations and entries were written.
+pub struct Loaded {
+    pub number: u32,
+    pub place: usize,
+    pub cells: usize,
+    pub operations: usize,
+    pub entries: usize,
+}
+
+// What a call that writes bytes returns: whether it was turned away, and how many it wrote.
+pub struct Written {
+    pub number: u32,
+    pub place: usize,
+    pub length: usize,
+}

@@ -6,6 +6,7 @@ ghost use mathlib.Core.Path.{_≡_};
 ghost use Prim.Native.Nat.{_+_, _*_, _/_, _%_, _^_};
 ghost use Rattle.semantics.specs.Words.{keyOf, totalBits, kindBits, bitsAboveKind, operationKey, amountBits};
 ghost use lib.Count.{ones};
+ghost use lib.ListN.{length, replicate};
 ghost use Rattle.semantics.specs.Sets.{isIn, including};
 ghost use Rattle.semantics.specs.Words.{isLiveKey, isPowerFrom, sizeAllowed, roomHome, roomSum};
 
@@ -192,4 +193,15 @@ pub extern "C" fn room_sum(a: u16, b: u16) -> u32
 {
     let sum = (a as u32) + (b as u32);
     if sum <= 65535 { sum } else { 65535 }
+}
+
+// Every word 0: no answer yet, or no cell filled.
+pub fn clear(words: &mut [u32])
+    ensures { λ _. ⌜ now (words .exit) ≡ replicate (length (now (words .entry))) 0 ⌝ }
+{
+    let mut i = 0;
+    while i < words.len() {
+        words[i] = 0;
+        i = i + 1;
+    }
 }

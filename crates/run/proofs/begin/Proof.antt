@@ -11,7 +11,7 @@ use Rattle.semantics.specs.Run.{over}
 use Rattle.semantics.specs.Words.{roomHome}
 use Rattle.step.specs.Progress.{begun}
 use Rattle.run.specs.Records.{blank, atHome, firstRecords}
-use Rattle.run.proofs.Over.{over-none, map-next}
+use Rattle.semantics.proofs.Over.{over-none, map-next}
 use Rattle.run.proofs.begin.Statement.{statement}
 use Rattle.run.proofs.begin.Tie as tie
 

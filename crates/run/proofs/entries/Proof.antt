@@ -4,30 +4,31 @@ use mathlib.Core.Path.{_≡_, refl, sym, ap, subst, _∙_}
 use Prim.Native.Nat.{ℕ, _-_, _≤_, _<_}
 use native.Mathlib.Omega.{arith}
 use mathlib.Core.Bool.{false}
-use mathlib.Core.List.{List, [], _∷_}
-use lib.ListN.{length, replicate, length-replicate, getD, take}
+use mathlib.Core.List.{List, [], _∷_, _++_}
+use lib.ListN.{length, replicate, length-replicate, getD, take, drop}
+use lib.Seq.{length-take-le}
 use types.Run.{OneOf, miss}
 use denote.Enum.Declared.{tagOf}
 use borrow.Author.Needs.{needs}
 use Rattle.semantics.specs.Sets.{isIn}
 use Rattle.semantics.specs.Refusals.{Call, callOf}
-use Rattle.semantics.specs.Run.{machine}
+use Rattle.semantics.specs.Run.{over, machine}
 use Rattle.semantics.proofs.Narrow.{allowed-bounds}
 use Rattle.semantics.proofs.Start.{Passed, accepted-call}
 use Rattle.step.specs.declared.Event.{Event}
 use Rattle.step.specs.Progress.{begun}
 use Rattle.step.proofs.Event as event
-use Rattle.run.proofs.Over.{over-length}
+use Rattle.semantics.proofs.Over.{over-length, over-zeros}
 use Rattle.run.proofs.Loop.{At, at-start, cells-long, answers-long, log-long, at-end, at-idle, room, at-finished, at-lost, at-other}
 use Rattle.run.proofs.entries.Statement.{statement}
 use Rattle.run.proofs.entries.Tie as tie
 
 abbrev Inv-loop : tie.InvT-loop
-Inv-loop cells₀ operations schedule answers₀ log₀ records₀ finished₀ lost₀ idle₀ k₀ cells answers log records finished lost idle k =
+Inv-loop cells₀ operations schedule answers₀ log₀ n₀ records₀ finished₀ lost₀ idle₀ k₀ cells answers log records finished lost idle k =
     (k ≤ length schedule) × At (length cells₀) answers₀ log₀ (machine cells₀ operations (take k schedule)) k cells records answers log finished lost idle
 
 abbrev μ-loop : tie.MeasureT-loop
-μ-loop cells₀ operations schedule answers₀ log₀ records₀ finished₀ lost₀ idle₀ k₀ cells answers log records finished lost idle k = length schedule - k
+μ-loop cells₀ operations schedule answers₀ log₀ n₀ records₀ finished₀ lost₀ idle₀ k₀ cells answers log records finished lost idle k = length schedule - k
 
 -- the call, and that the checks let it pass
 abbrev called : tie.Start Inv-loop μ-loop → Call
@@ -58,17 +59,31 @@ unfinished : (c : tie.Else1 Inv-loop μ-loop)
 unfinished c = sym (c .before .has .ensures) ∙ c .if1 .left
 
 -- the answers that are cleared are as long as those lent
-cleared-long : (c : tie.At-loop Inv-loop μ-loop) → length (c .before .before .before .before .clear .last .0) ≡ length (start c .args .answers .now)
+cleared : (c : tie.After-clear Inv-loop μ-loop)
+    → let a = c .before .before .before .before .before .before .before .args in
+    let n = length (a .operations .now) in
+    c .clear .last .0 ++ drop n (a .answers .now) ≡ over (replicate n 0) (a .answers .now)
+cleared c = over-zeros (length (c .before .before .before .before .before .before .before .args .operations .now)) (c .before .before .before .before .before .before .before .args .answers .now) (ok (c .before .before .before .before .before .before .before) .answers) (c .clear .ensures)
+
+cleared-long : (c : tie.At-loop Inv-loop μ-loop)
+    → let a = start c .args in
+    length (c .before .before .before .before .clear .last .0 ++ drop (length (a .operations .now)) (a .answers .now)) ≡ length (a .answers .now)
 cleared-long c =
     let n = length (start c .args .operations .now) in
-    ap length (c .before .before .before .before .clear .ensures) ∙ over-length (replicate n 0) _ (omega (arith, length-replicate {A = ℕ} n 0, ok (start c) .answers))
+    ap length (cleared (c .before .before .before .before)) ∙ over-length (replicate n 0) _ (omega (arith, length-replicate {A = ℕ} n 0, ok (start c) .answers))
 
 -- an event whose tag is among the keys of the last arm is none of another tag
 is-none : (ks : List ℕ) {x y : Event} → OneOf ks (tagOf event.the-type y) → (OneOf ks (tagOf event.the-type x) → ⊥) → y ≡ x → ⊥
 is-none ks among other q = other (subst (λ (e : Event). OneOf ks (tagOf event.the-type e)) q among)
 
+slice-relend-prefix-clear : tie.Need-slice-relend-prefix-clear Inv-loop μ-loop
+slice-relend-prefix-clear c = ok (c .before .before .before .before .before) .answers
+
+slice-aggregate-clear : tie.Need-slice-aggregate-clear Inv-loop μ-loop
+slice-aggregate-clear c = sym (length-take-le (length (c .before .before .before .before .before .before .args .operations .now)) (c .before .before .before .before .before .before .args .answers .now) (ok (c .before .before .before .before .before .before) .answers))
+
 clear-requires : tie.Need-clear-requires Inv-loop μ-loop
-clear-requires c κs = ok (c .before .before .before .before .before .before) .answers
+clear-requires c κs = search needs
 
 cast-begin : tie.Need-cast-begin Inv-loop μ-loop
 cast-begin c = record { fits = omega (arith, allowed-bounds _ (ok (c .before .before .before .before .before .before .before .before .before) .size)) }
@@ -77,7 +92,7 @@ begin-requires : tie.Need-begin-requires Inv-loop μ-loop
 begin-requires c κs = ok (c .before .before .before .before .before .before .before .before .before) .few
 
 loop-holds : tie.Need-loop-holds Inv-loop μ-loop
-loop-holds c = (omega arith, at-start (ok (c .before .before .before .before .before .before .before .before .before .before)) _ (c .before .before .before .clear .ensures) (c .begin .ensures))
+loop-holds c = (omega arith, at-start (ok (c .before .before .before .before .before .before .before .before .before .before)) _ (cleared (c .before .before .before)) (c .begin .ensures))
 
 shared-slice-read-entry : tie.Need-shared-slice-read-entry Inv-loop μ-loop
 shared-slice-read-entry c = search needs
@@ -216,7 +231,7 @@ same-length-3 : tie.Need-same-length-3 Inv-loop μ-loop
 same-length-3 c = let o = ok (start (c .before)) in log-long o (c .before .loop .inv .1) (o .log)
 
 returns : tie.Need-returns Inv-loop μ-loop
-returns c = at-end (ok (start (c .before))) (c .before .loop .inv .1) (c .loop-test .left) _ (c .before .before .before .before .before .clear .ensures)
+returns c = at-end (ok (start (c .before))) (c .before .loop .inv .1) (c .loop-test .left) _ (cleared (c .before .before .before .before .before))
 
 pub entries-spec : {M : Type 1} → statement M
 entries-spec =
@@ -224,6 +239,8 @@ entries-spec =
     (tie.spec
     Inv-loop
     μ-loop
+    slice-relend-prefix-clear
+    slice-aggregate-clear
     clear-requires
     cast-begin
     begin-requires

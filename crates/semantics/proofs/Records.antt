@@ -1,0 +1,146 @@
+-- A scan over the records of a file, whatever their marks and sizes: what is left of it at each record, for a scan that judges and for one
+-- that folds an accepted file.
+-- Assumes nothing.
+use mathlib.Core.Path.{_≡_, refl, sym, ap, subst, _∙_}
+use Prim.Native.Nat.{ℕ, zero, suc, _+_, _-_, _≤_, _<_}
+use mathlib.Core.Bool.{Bool, true, false, and-false}
+use mathlib.Core.List.{List, [], _∷_}
+use native.Mathlib.Decide.{ℕ-discrete}
+use native.Mathlib.Omega.{arith}
+use lib.ListN.{length}
+use borrow.Author.Tests.{eq-eqb, ne-eqb, lt-ltb, le-ltb}
+use Rattle.semantics.specs.Basics.{foldl}
+use Rattle.semantics.specs.declared.Refusal.{Refusal}
+use Rattle.semantics.specs.Refusals.{firstMet}
+use Rattle.semantics.specs.Records.{Format, faultAt, goesOn, recordsFrom, records, recordConditions}
+use Rattle.semantics.proofs.Start.{Positive, none-met, met-early, met-late, met-none, Placed, met-placed, early-accepts}
+
+-- what a scan asks of a format: the numbers of its conditions are positive and their place is the record's; a record that none turns away
+-- begins within the file, and the one after it further on
+pub record Scannable (F : Format) (file : List ℕ) : Type 0 where
+  pub positive : (p : F .Place) → Positive (F .conditions file p)
+  pub placed : (p : F .Place) → Placed (F .offset p) (F .conditions file p)
+  pub within : (p : F .Place) → faultAt F file p ≡ 0 → F .offset p < length file
+  pub onward : (p : F .Place) → faultAt F file p ≡ 0 → F .offset p < F .offset (F .next file p)
+
+-- a scan has come to a record: its result is a reading of the records from here on, of which the fuel is enough for all
+pub record Left (F : Format) (file : List ℕ) {A : Type 0} (of : List (F .Place) → A) (result : A) (p : F .Place) : Type 0 where
+  pub fuel : ℕ
+  pub enough : length file ≤ fuel + F .offset p
+  pub rest : result ≡ of (recordsFrom F file (suc fuel) p)
+
+-- the reading of records that judges them
+abbrev pub judgement : (F : Format) → List ℕ → List (F .Place) → Refusal
+judgement F file ps = firstMet (recordConditions F file ps)
+
+-- what a reader says of the record at p: the number of the condition that turns it away, and the place past one that none does
+pub record Read (F : Format) (file : List ℕ) (p : F .Place) (number : ℕ) (q : F .Place) : Type 0 where
+  pub is : number ≡ faultAt F file p
+  pub onto : number ≡ 0 → q ≡ F .next file p
+
+-- folding over the records of an accepted file: h has come of those before p
+pub record Folding (F : Format) (file : List ℕ) {B : Type 0} (f : B → F .Place → B) (refusal : Refusal) (result : B) (p : F .Place) (h : B) : Type 0 where
+  pub judging : Left F file (judgement F file) refusal p
+  pub folding : Left F file (foldl f h) result p
+
+module _ (F : Format) (file : List ℕ) where
+  pub scan-starts : {A : Type 0} (of : List (F .Place) → A) (start : F .Place) {p : F .Place} → p ≡ start → Left F file of (of (records F file start)) p
+  unfolding records
+  scan-starts of start e =
+      subst (Left F file of (of (records F file start))) (sym e) (record { fuel = length file; enough = omega arith; rest = refl })
+
+  pub fold-starts : {B : Type 0} (f : B → F .Place → B) (h : B) (start : F .Place) {p : F .Place} → p ≡ start
+      → Folding F file f (judgement F file (records F file start)) (foldl f h (records F file start)) p h
+  fold-starts f h start e = record { judging = scan-starts (judgement F file) start e; folding = scan-starts (foldl f h) start e }
+
+  -- whether a record is the last
+  last : (n : ℕ) (p : F .Place) → goesOn F file p ≡ false → recordsFrom F file (suc n) p ≡ p ∷ []
+  unfolding recordsFrom
+  last n p e = ap (λ (b : Bool). p ∷ elim b [ true ↦ recordsFrom F file n (F .next file p) | false ↦ [] ]) e
+
+  more : (n : ℕ) (p : F .Place) → goesOn F file p ≡ true → recordsFrom F file (suc n) p ≡ p ∷ recordsFrom F file n (F .next file p)
+  unfolding recordsFrom
+  more n p e = ap (λ (b : Bool). p ∷ elim b [ true ↦ recordsFrom F file n (F .next file p) | false ↦ [] ]) e
+
+-- a turn of a loop that reads the record at p and goes on to q, or ends
+module _ {F : Format} {file : List ℕ} (ok : Scannable F file) {p : F .Place} {n : ℕ} {q : F .Place} (t : Read F file p n q) where
+  passed : n ≡ 0 → faultAt F file p ≡ 0
+  passed z = sym (t .is) ∙ z
+
+  moved : n ≡ 0 → F .offset q ≡ F .offset (F .next file p)
+  moved z = ap (F .offset) (t .onto z)
+
+  -- less is left of the file
+  pub scan-less : n ≡ 0 → length file - F .offset q < length file - F .offset p
+  scan-less z = omega (arith, moved z, ok .within p (passed z), ok .onward p (passed z))
+
+  module _ {A : Type 0} {of : List (F .Place) → A} {result : A} (l : Left F file of result p) where
+    scan-goes-on : n ≡ 0 → F .offset q < length file → (of′ : List (F .Place) → A) → ((ps : List (F .Place)) → of (p ∷ ps) ≡ of′ ps)
+        → Left F file of′ result q
+    unfolding goesOn
+    scan-goes-on z b of′ turn = subst (Left F file of′ result) (sym (t .onto z)) (go (l .fuel) (l .enough) (l .rest))
+      where
+        on : goesOn F file p ≡ true
+        on = rw (eq-eqb (faultAt F file p) 0 (passed z), lt-ltb (F .offset (F .next file p)) (length file) (omega (arith, moved z)))
+
+        go : (k : ℕ) → length file ≤ k + F .offset p → result ≡ of (recordsFrom F file (suc k) p) → Left F file of′ result (F .next file p)
+        go zero h r = absurd (omega (arith, ok .within p (passed z)))
+        go (suc k) h r =
+            record {
+              fuel = k;
+              enough = omega (arith, ok .onward p (passed z));
+              rest = r ∙ ap of (more F file (suc k) p on) ∙ turn (recordsFrom F file (suc k) (F .next file p));
+            }
+
+    scan-ends : (n ≡ 0 → length file ≤ F .offset q) → result ≡ of (p ∷ [])
+    unfolding goesOn
+    scan-ends h = l .rest ∙ ap of (last F file (l .fuel) p (elim (ℕ-discrete n 0) [ yes z ↦ ended z | no z ↦ faulty z ]))
+      where
+        ended : n ≡ 0 → goesOn F file p ≡ false
+        ended z = rw (le-ltb (F .offset (F .next file p)) (length file) (omega (arith, moved z, h z)), and-false)
+
+        faulty : (n ≡ 0 → ⊥) → goesOn F file p ≡ false
+        faulty z = rw (ne-eqb (faultAt F file p) 0 (λ e. z (t .is ∙ e)))
+
+  -- judging: a record that no condition turns away lets the later ones decide, and another one decides
+  judged-later : n ≡ 0 → (ps : List (F .Place)) → judgement F file (p ∷ ps) ≡ judgement F file ps
+  unfolding recordConditions faultAt
+  judged-later z ps = met-late (F .conditions file p) (recordConditions F file ps) (none-met (F .conditions file p) (ok .positive p) (passed z))
+
+  judged-here : (n ≡ 0 → ⊥) → (ps : List (F .Place)) → judgement F file (p ∷ ps) ≡ record { number = n; place = F .offset p }
+  unfolding recordConditions faultAt
+  judged-here z ps =
+      let h : firstMet (F .conditions file p) .number ≡ 0 → ⊥ = λ e. z (t .is ∙ e) in
+      met-early (F .conditions file p) (recordConditions F file ps) h
+      ∙ met-placed (F .offset p) (F .conditions file p) (ok .placed p) h
+      ∙ ap (λ (k : ℕ). record { number = k; place = F .offset p }) (sym (t .is))
+
+  module _ {refusal : Refusal} (l : Left F file (judgement F file) refusal p) where
+    pub judge-goes-on : n ≡ 0 → F .offset q < length file → Left F file (judgement F file) refusal q
+    judge-goes-on z b = scan-goes-on l z b (judgement F file) (judged-later z)
+
+    pub judge-faulty : (n ≡ 0 → ⊥) → record { number = n; place = F .offset p } ≡ refusal
+    judge-faulty z = sym (scan-ends l (λ e. absurd (z e)) ∙ judged-here z [])
+
+    pub judge-ends : n ≡ 0 → length file ≤ F .offset q → record { number = 0; place = 0 } ≡ refusal
+    unfolding recordConditions
+    judge-ends z b = sym (scan-ends l (λ e. b) ∙ judged-later z [] ∙ met-none)
+
+  -- folding: no record of an accepted file is faulty
+  module _ {B : Type 0} {f : B → F .Place → B} {refusal : Refusal} {result : B} {h : B} (s : Folding F file f refusal result p h)
+      (accepted : refusal .number ≡ 0) where
+    pub fold-sound : n ≡ 0
+    unfolding recordsFrom recordConditions faultAt
+    fold-sound = t .is ∙ early-accepts (F .conditions file p) _ (ap (λ (r : Refusal). r .number) (sym (s .judging .rest)) ∙ accepted)
+
+    pub fold-goes-on : F .offset q < length file → Folding F file f refusal result q (f h p)
+    unfolding foldl
+    fold-goes-on b =
+        record {
+          judging = judge-goes-on (s .judging) fold-sound b;
+          folding = scan-goes-on (s .folding) fold-sound b (foldl f (f h p)) (λ ps. refl);
+        }
+
+    pub fold-ends : length file ≤ F .offset q → result ≡ f h p
+    unfolding foldl
+    fold-ends b = scan-ends (s .folding) (λ e. b)

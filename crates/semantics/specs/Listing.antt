@@ -1,0 +1,85 @@
+-- Document 01, "A run in full": the text of a run, or of a refusal.
+-- Assumes nothing.
+use Prim.Native.Nat.{ℕ, _/_, _%_, min}
+use mathlib.Core.Bool.{cond}
+use mathlib.Core.List.{List, [], _∷_, _++_}
+use lib.Dec.{eqb}
+use lib.ListN.{length, getD}
+use Rattle.semantics.specs.declared.Outcome.{Outcome}
+use Rattle.semantics.specs.Totals.{narrowCeiling}
+use Rattle.semantics.specs.Words.{keyOf, totalBits, tombstoneWord, kindBits, operationKey, amountBits}
+use Rattle.semantics.specs.Text.{text, decimal, textsBelow}
+
+-- "The kind is 1 find, 2 insert, 3 update, 4 add, 5 remove." No other number has a word.
+abbrev pub kindWords : List (List ℕ)
+kindWords = [] ∷ text "find" ∷ text "insert" ∷ text "update" ∷ text "add" ∷ text "remove" ∷ []
+
+unfoldable pub kindWord : ℕ → List ℕ
+kindWord n = getD kindWords n []
+
+-- "Codes: 0 unfinished, 1 found, 2 inserted, 3 present, 4 changed, 5 removed, 6 absent, 7 full." No other code has a word.
+abbrev pub codeWords : List (List ℕ)
+codeWords =
+    text "unfinished"
+    ∷ text "found"
+    ∷ text "inserted"
+    ∷ text "present"
+    ∷ text "changed"
+    ∷ text "removed"
+    ∷ text "absent"
+    ∷ text "full"
+    ∷ []
+
+unfoldable pub codeWord : ℕ → List ℕ
+codeWord n = getD codeWords n []
+
+-- "A total or amount of 65,535 is written pinned."
+unfoldable pub totalText : ℕ → List ℕ
+totalText n = cond (eqb n narrowCeiling) (text "pinned") (decimal n)
+
+-- "Lines end in byte 10."
+abbrev pub lineEnd : List ℕ
+lineEnd = text "\n"
+
+-- "A refusal is one line, `refused 8 at 5`."
+unfoldable pub refusalText : ℕ → ℕ → List ℕ
+refusalText number place = text "refused " ++ decimal number ++ text " at " ++ decimal place ++ lineEnd
+
+-- "Fields: counts"
+unfoldable pub countsText : ℕ → Outcome → List ℕ
+countsText rows o =
+    text "rows " ++ decimal rows ++ text " done " ++ decimal (o .done) ++ text " lost " ++ decimal (o .lost) ++ text " idle "
+    ++ decimal (o .idle) ++ lineEnd
+
+-- "then row number, kind, key, amount, answer, its total"
+unfoldable pub operationText : ℕ → ℕ → List ℕ
+operationText i operation =
+    text "row " ++ decimal i ++ text " " ++ kindWord (kindBits operation) ++ text " " ++ decimal (operationKey operation) ++ text " "
+    ++ totalText (amountBits operation)
+
+unfoldable pub answerText : ℕ → List ℕ
+answerText answer = text " " ++ codeWord (answer / 65536) ++ text " " ++ totalText (answer % 65536)
+
+unfoldable pub rowText : ℕ → ℕ → ℕ → List ℕ
+rowText i operation answer = operationText i operation ++ answerText answer ++ lineEnd
+
+-- "the log (the word alone if nobody finished)": its first bytes, one for each finished row
+unfoldable pub logText : ℕ → List ℕ → List ℕ
+logText done log = text "log" ++ textsBelow (min done (length log)) (λ i. text " " ++ decimal (getD log i 0)) ++ lineEnd
+
+-- "then each non-empty cell with key and total, a tombstone as `cell 4 gone`"
+unfoldable pub contentsText : ℕ → List ℕ
+contentsText w = cond (eqb w tombstoneWord) (text " gone") (text " " ++ decimal (keyOf w) ++ text " " ++ totalText (totalBits w))
+
+unfoldable pub cellText : ℕ → ℕ → List ℕ
+cellText i w = cond (eqb w 0) [] (text "cell " ++ decimal i ++ contentsText w ++ lineEnd)
+
+module _ (outcome : Outcome) (operations answers log cells : List ℕ) where
+  unfoldable pub runText : List ℕ
+  runText =
+      countsText (length operations) outcome ++ textsBelow (length operations) (λ i. rowText i (getD operations i 0) (getD answers i 0))
+      ++ logText (outcome .done) log ++ textsBelow (length cells) (λ i. cellText i (getD cells i 0))
+
+  -- the text of what a run returned, with its operations and what it left
+  unfoldable pub listing : List ℕ
+  listing = cond (eqb (outcome .number) 0) runText (refusalText (outcome .number) (outcome .place))
