@@ -1,0 +1,207 @@
+-- Filling the slices from an accepted file: what they hold at each record is what the records before it say, over what was lent.
+-- Assumes nothing.
+use mathlib.Core.Path.{_≡_, refl, sym, ap, subst, _∙_}
+use Prim.Native.Nat.{ℕ, _+_, _-_, _^_, _≤_, _<_}
+use mathlib.Core.Bool.{Bool, true, false, cond, true≢false}
+use mathlib.Core.List.{List, [], _∷_, _++_}
+use native.Mathlib.Omega.{arith}
+use lib.Dec.{eqb}
+use lib.ListN.{length, set, take, drop, replicate, length-replicate, length-set, length-append, length-drop}
+use lib.Pow.{pow-mono}
+use lib.Seq.{length-take-le}
+use borrow.Author.Tests.{eqb-true}
+use Rattle.semantics.specs.declared.Mark.{Mark}
+use Rattle.semantics.specs.declared.Mark.the-variants.{Table, Cell, Operation, Schedule, Unknown}
+use Rattle.semantics.specs.declared.Position.{Position}
+use Rattle.semantics.specs.Run.{over}
+use Rattle.semantics.specs.Records.{records}
+use Rattle.semantics.specs.RunFile.{Contents, byteAt, pairAt, cellWordAt, operationWordAt, entriesAt, partOf, mayFollow, sizeOf, past, start, runFile, loaded, load, contents, acceptedReading}
+use Rattle.semantics.proofs.Over.{over-none, over-length, over-set, over-next, over-more}
+use Rattle.semantics.proofs.Records.{Folding, judgement, scan-less, fold-starts, fold-sound, fold-goes-on, fold-ends}
+use Rattle.record.specs.declared.Reading.{Reading}
+use Rattle.record.specs.Reads.{readingAt}
+use Rattle.record.proofs.Judged.{Sound, scannable, exponent, inside, few, short, mark-read, reads}
+use Rattle.io.specs.Counts.{Counts}
+use Rattle.runfile.specs.Stored.{stored}
+use Rattle.runfile.proofs.Stores.{read-sound, next-past}
+
+-- the slices are long enough
+abbrev pub Room : Contents → Type 0
+Room s = (4096 ≤ length (s .cells)) × (64 ≤ length (s .operations)) × (16384 ≤ length (s .schedule))
+
+-- h over what was lent
+abbrev overAll : Contents → Contents → Contents
+overAll h s =
+    record {
+      cells = over (h .cells) (s .cells);
+      operations = over (h .operations) (s .operations);
+      schedule = over (h .schedule) (s .schedule);
+    }
+
+-- a file holds no more than the slices have to have room for
+pub record Few (c n e : ℕ) : Type 0 where
+  pub cells : c ≤ 4096
+  pub operations : n ≤ 64
+  pub entries : e ≤ 16384
+
+-- a part that is no longer than its slice
+pub counts-front : (n : ℕ) (l : List ℕ) → n ≤ length l → Counts n l
+counts-front n l h = (h, sym (length-take-le n l h))
+
+-- slices that were lent as s₀ hold h, as much of it as the position p says; before the first record no table
+pub record Holds (s₀ : Contents) (p : Position) (h s : Contents) : Type 0 where
+  pub is : s ≡ overAll h s₀
+  pub cells : length (h .cells) ≡ p .size
+  pub operations : length (h .operations) ≡ p .operations
+  pub entries : length (h .schedule) ≡ p .entries
+  pub small : Few (p .size) (p .operations) (p .entries)
+  pub fresh : p .part ≡ 0 → h .cells ≡ []
+
+-- a table comes first
+first : (before : ℕ) → mayFollow before 1 ≡ true → before ≡ 0
+unfolding mayFollow
+first before e = go (eqb before 0) refl e
+  where
+    go : (b : Bool) → eqb before 0 ≡ b → cond b true false ≡ true → before ≡ 0
+    go true f g = eqb-true before 0 f
+    go false f g = absurd (true≢false (sym g))
+
+module _ {s₀ : Contents} {p : Position} {h s : Contents} (room : Room s₀) (k : Holds s₀ p h s) where
+  pub holds-long : (length (s .cells) ≡ length (s₀ .cells)) × (length (s .operations) ≡ length (s₀ .operations)) × (length (s .schedule) ≡ length (s₀ .schedule))
+  holds-long = (
+    ap (λ (t : Contents). length (t .cells)) (k .is) ∙ over-length (h .cells) (s₀ .cells) (omega (arith, k .cells, k .small .cells, room .0)),
+    ap (λ (t : Contents). length (t .operations)) (k .is) ∙ over-length (h .operations) (s₀ .operations) (omega (arith, k .operations, k .small .operations, room .1)),
+    ap (λ (t : Contents). length (t .schedule)) (k .is) ∙ over-length (h .schedule) (s₀ .schedule) (omega (arith, k .entries, k .small .entries, room .2)),
+  )
+
+  pub holds-counted : Counts (p .size) (s .cells) × Counts (p .operations) (s .operations) × Counts (p .entries) (s .schedule)
+  holds-counted = (
+    counts-front (p .size) (s .cells) (omega (arith, holds-long .0, room .0, k .small .cells)),
+    counts-front (p .operations) (s .operations) (omega (arith, holds-long .1, room .1, k .small .operations)),
+    counts-front (p .entries) (s .schedule) (omega (arith, holds-long .2, room .2, k .small .entries)),
+  )
+
+  -- one record more
+  pub holds-next : (file : List ℕ) (m : Mark) → Sound file p m → Holds s₀ (past file p m) (loaded file (p .at) m h) (stored file p m s)
+  unfolding past loaded stored partOf sizeOf
+  holds-next file Table ok =
+      let n = 2 ^ byteAt file (p .at + 2) in
+      let zeros : List ℕ = replicate n 0 in
+      let none = k .fresh (first (p .part) (ok .follows)) in
+      let cells = ap (λ (t : Contents). over zeros (t .cells)) (k .is) ∙ ap (λ l. over zeros (over l (s₀ .cells))) none ∙ ap (over zeros) (over-none (s₀ .cells)) in
+      record {
+        is = λ i. record { cells = cells i; operations = k .is i .operations; schedule = k .is i .schedule };
+        cells = length-replicate {A = ℕ} n 0;
+        operations = k .operations;
+        entries = k .entries;
+        small = record { cells = pow-mono (exponent ok refl .1); operations = k .small .operations; entries = k .small .entries };
+        fresh = λ e. absurd (omega (arith, e));
+      }
+  holds-next file Cell ok =
+      let n = pairAt file (p .at + 2) in
+      let w = cellWordAt file (p .at) in
+      let cells = ap (λ (t : Contents). set (t .cells) n w) (k .is) ∙ over-set (h .cells) (s₀ .cells) n w (omega (arith, inside ok refl, k .cells)) in
+      record {
+        is = λ i. record { cells = cells i; operations = k .is i .operations; schedule = k .is i .schedule };
+        cells = length-set (h .cells) n w ∙ k .cells;
+        operations = k .operations;
+        entries = k .entries;
+        small = k .small;
+        fresh = λ e. absurd (omega (arith, e));
+      }
+  holds-next file Operation ok =
+      let w = operationWordAt file (p .at) in
+      let operations = ap (λ (t : Contents). set (t .operations) (p .operations) w) (k .is)
+      ∙ over-next (h .operations) (s₀ .operations) (p .operations) w (k .operations) (omega (arith, few ok refl, room .1)) in
+      record {
+        is = λ i. record { cells = k .is i .cells; operations = operations i; schedule = k .is i .schedule };
+        cells = k .cells;
+        operations = length-append (h .operations) (w ∷ []) ∙ omega (arith, k .operations);
+        entries = k .entries;
+        small = record { cells = k .small .cells; operations = omega (arith, few ok refl); entries = k .small .entries };
+        fresh = λ e. absurd (omega (arith, e));
+      }
+  holds-next file Schedule ok =
+      let n = byteAt file (p .at + 2) in
+      let bytes = entriesAt file (p .at) in
+      let schedule = ap (λ (t : Contents). take (p .entries) (t .schedule) ++ over bytes (drop (p .entries) (t .schedule))) (k .is)
+      ∙ over-more (h .schedule) bytes (s₀ .schedule) (p .entries) (k .entries) in
+      record {
+        is = λ i. record { cells = k .is i .cells; operations = k .is i .operations; schedule = schedule i };
+        cells = k .cells;
+        operations = k .operations;
+        entries = length-append (h .schedule) bytes
+            ∙ omega (arith, k .entries, length-take-le n (drop (p .at + 3) file) (omega (arith, length-drop (p .at + 3) file, ok .whole)));
+        small = record { cells = k .small .cells; operations = k .small .operations; entries = short ok refl };
+        fresh = λ e. absurd (omega (arith, e));
+      }
+  holds-next file Unknown ok = k
+
+-- filling has come to the record at p
+pub record Filling (file : List ℕ) (s₀ : Contents) (p : Position) (s : Contents) : Type 0 where
+  pub so-far : Contents
+  pub folding : Folding runFile file (load file) (judgement runFile file (records runFile file start)) (contents file) p so-far
+  pub holds : Holds s₀ p so-far s
+
+pub filling-starts : (file : List ℕ) (s₀ : Contents) {p : Position} → p ≡ start → Filling file s₀ p s₀
+unfolding contents
+filling-starts file s₀ {p} e =
+    let nothing : Contents = record { cells = []; operations = []; schedule = [] } in
+    record {
+      so-far = nothing;
+      folding = fold-starts runFile file (load file) nothing start e;
+      holds =
+          subst (λ q. Holds s₀ q nothing s₀) (sym e)
+          (record {
+            is = λ i. record { cells = sym (over-none (s₀ .cells)) i; operations = sym (over-none (s₀ .operations)) i; schedule = sym (over-none (s₀ .schedule)) i };
+            cells = refl;
+            operations = refl;
+            entries = refl;
+            small = record { cells = omega arith; operations = omega arith; entries = omega arith };
+            fresh = λ z. refl;
+          });
+    }
+
+module _ {file : List ℕ} {s₀ : Contents} {p : Position} {s : Contents} (f : Filling file s₀ p s) (room : Room s₀)
+    (accepted : judgement runFile file (records runFile file start) .number ≡ 0) {r : Reading} (e : r ≡ readingAt file p) where
+  pub filling-sound : r .number ≡ 0
+  filling-sound = fold-sound (scannable file) (reads file p e) (f .folding) accepted
+
+  pub filling-less : length file - r .next .at < length file - p .at
+  filling-less = scan-less (scannable file) (reads file p e) filling-sound
+
+  module _ {s′ : Contents} (stores : stored file p (r .mark) s ≡ s′) where
+    pub turned : Holds s₀ (r .next) (load file (f .so-far) p) s′
+    unfolding load
+    turned =
+        subst (Holds s₀ (r .next) (load file (f .so-far) p)) stores
+        (subst (λ q. Holds s₀ q (load file (f .so-far) p) (stored file p (r .mark) s)) (sym (next-past file p e filling-sound))
+        (subst (λ h. Holds s₀ (past file p (r .mark)) h (stored file p (r .mark) s)) (ap (λ m. loaded file (p .at) m (f .so-far)) (mark-read file p e))
+        (holds-next room (f .holds) file (r .mark) (read-sound file p e filling-sound))))
+
+    pub filling-again : r .next .at < length file → Filling file s₀ (r .next) s′
+    filling-again b =
+        record {
+          so-far = load file (f .so-far) p;
+          folding = fold-goes-on (scannable file) (reads file p e) (f .folding) accepted b;
+          holds = turned;
+        }
+
+    pub filling-ends : length file ≤ r .next .at
+        → acceptedReading (contents file) (s₀ .cells) (s₀ .operations) (s₀ .schedule)
+        ≡ record {
+          loaded = record { number = 0; place = 0; cells = r .next .size; operations = r .next .operations; entries = r .next .entries };
+          cells = s′ .cells;
+          operations = s′ .operations;
+          schedule = s′ .schedule;
+        }
+    unfolding acceptedReading
+    filling-ends b =
+        let end = turned in
+        ap (λ h. acceptedReading h (s₀ .cells) (s₀ .operations) (s₀ .schedule)) (fold-ends (scannable file) (reads file p e) (f .folding) accepted b)
+        ∙ (λ i. record {
+          loaded = record { number = 0; place = 0; cells = end .cells i; operations = end .operations i; entries = end .entries i };
+          cells = sym (end .is) i .cells;
+          operations = sym (end .is) i .operations;
+          schedule = sym (end .is) i .schedule;
+        })

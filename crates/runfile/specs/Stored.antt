@@ -1,0 +1,47 @@
+-- What the reader stores for one record of an accepted file, in slices that earlier records have filled in part.
+-- Assumes nothing.
+use mathlib.Core.Path.{_≡_}
+use Prim.Native.Nat.{ℕ, _+_, _^_, _≤_}
+use mathlib.Core.List.{List, _++_}
+use lib.ListN.{length, set, take, drop, replicate}
+use Rattle.semantics.specs.declared.Mark.{Mark}
+use Rattle.semantics.specs.declared.Mark.the-variants.{Table, Cell, Operation, Schedule, Unknown}
+use Rattle.semantics.specs.declared.Position.{Position}
+use Rattle.semantics.specs.Refusals.{mostOperations, mostEntries}
+use Rattle.semantics.specs.Run.{over}
+use Rattle.semantics.specs.RunFile.{Contents, byteAt, pairAt, cellWordAt, operationWordAt, entriesAt, mostCells}
+use Rattle.record.specs.declared.Reading.{Reading}
+use Rattle.record.specs.Reads.{readingAt}
+
+-- the slices' contents after the record at p: an operation and entries stand behind those that came before
+unfoldable pub stored : List ℕ → Position → Mark → Contents → Contents
+stored file p Table s =
+    record { cells = over (replicate (2 ^ byteAt file (p .at + 2)) 0) (s .cells); operations = s .operations; schedule = s .schedule }
+stored file p Cell s =
+    record {
+      cells = set (s .cells) (pairAt file (p .at + 2)) (cellWordAt file (p .at));
+      operations = s .operations;
+      schedule = s .schedule;
+    }
+stored file p Operation s =
+    record {
+      cells = s .cells;
+      operations = set (s .operations) (p .operations) (operationWordAt file (p .at));
+      schedule = s .schedule;
+    }
+stored file p Schedule s =
+    record {
+      cells = s .cells;
+      operations = s .operations;
+      schedule = take (p .entries) (s .schedule) ++ over (entriesAt file (p .at)) (drop (p .entries) (s .schedule));
+    }
+stored file p Unknown s = s
+
+-- what storing a record asks: it was read and is not turned away, and the slices have room for the most that a file may hold
+pub record Storable (file : List ℕ) (p : Position) (r : Reading) (c n e : List ℕ) : Type 0 where
+  pub read : r ≡ readingAt file p
+  pub sound : r .number ≡ 0
+  pub size : p .size ≤ mostCells
+  pub cells : mostCells ≤ length c
+  pub operations : mostOperations ≤ length n
+  pub entries : mostEntries ≤ length e
