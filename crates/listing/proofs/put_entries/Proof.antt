@@ -1,0 +1,83 @@
+-- `listing::put_entries` meets its contract: as many bytes as turns are written.
+-- Assumes nothing.
+use mathlib.Core.Path.{_≡_, ap}
+use Prim.Native.Nat.{ℕ, _-_, min, _≤_}
+use mathlib.Core.List.{List, _++_}
+use native.Mathlib.Omega.{arith}
+use lib.ListN.{length, getD}
+use Rattle.semantics.specs.Text.{text, decimal, textsBelow}
+use Rattle.text.specs.Writing.{written}
+use Rattle.text.proofs.Writing.{same-text, same-length as kept-length}
+use Rattle.listing.proofs.Lines.{no-text, next-text}
+use borrow.Author.Needs.{needs}
+use Rattle.listing.proofs.put_entries.Statement.{statement}
+use Rattle.listing.proofs.put_entries.Tie as tie
+
+abbrev entries : List ℕ → ℕ → List ℕ
+entries log i = text " " ++ decimal (getD log i 0)
+
+abbrev Inv-loop : tie.InvT-loop
+Inv-loop out₀ at done log n next₀ i₀ t8 out next i =
+    (i ≤ n) × (written (record { at = at; out = out₀ }) (textsBelow i (entries log)) ≡ record { at = next; out = out })
+
+abbrev μ-loop : tie.MeasureT-loop
+μ-loop out₀ at done log n next₀ i₀ t8 out next i = n - i
+
+least-requires : tie.Need-least-requires Inv-loop μ-loop
+least-requires c κs = search needs
+
+loop-holds : tie.Need-loop-holds Inv-loop μ-loop
+loop-holds c = (omega arith, no-text _ _)
+
+slice-aggregate-put-labelled : tie.Need-slice-aggregate-put-labelled Inv-loop μ-loop
+slice-aggregate-put-labelled c = search needs
+
+shared-slice-read-put-labelled : tie.Need-shared-slice-read-put-labelled Inv-loop μ-loop
+shared-slice-read-put-labelled c = search needs
+
+cast-put-labelled : tie.Need-cast-put-labelled Inv-loop μ-loop
+cast-put-labelled c = omega (arith, c .shared-slice-known2 .given (c .before .before .before .before .loop .i))
+
+put-labelled-requires : tie.Need-put-labelled-requires Inv-loop μ-loop
+put-labelled-requires c κs = search needs
+
+add-i : tie.Need-add-i Inv-loop μ-loop
+add-i c = search needs
+
+loop-less : tie.Need-loop-less Inv-loop μ-loop
+loop-less c = search needs
+
+loop-again : tie.Need-loop-again Inv-loop μ-loop
+unfolding text
+loop-again c =
+    let put = c .before .before in
+    let turn = put .before .before .before .before in
+    let log = turn .before .before .before .before .before .args .log .now in
+    (omega (arith, turn .loop-test .taken), next-text _ (turn .before .loop .i) (entries log) (turn .before .loop .inv .1) (put .put-labelled .ensures))
+
+same-length : tie.Need-same-length Inv-loop μ-loop
+same-length c = kept-length _ _ (c .before .loop .inv .1)
+
+returns : tie.Need-returns Inv-loop μ-loop
+returns c =
+    let a = c .before .before .before .before .before .args in
+    let all : c .before .loop .i ≡ min (a .done) (length (a .log .now)) = omega (arith, c .before .before .least .ensures, c .loop-test .left, c .before .loop .inv .0) in
+    same-text _ (ap (λ n. textsBelow n (entries (a .log .now))) all) (c .before .loop .inv .1)
+
+pub put-entries-spec : {M : Type 1} → statement M
+put-entries-spec =
+    tie.close
+    (tie.spec
+    Inv-loop
+    μ-loop
+    least-requires
+    loop-holds
+    slice-aggregate-put-labelled
+    shared-slice-read-put-labelled
+    cast-put-labelled
+    put-labelled-requires
+    add-i
+    loop-less
+    loop-again
+    same-length
+    returns)

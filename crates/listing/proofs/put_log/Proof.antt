@@ -1,0 +1,41 @@
+-- `listing::put_log` meets its contract.
+-- Assumes nothing.
+use Rattle.semantics.specs.Text.{text}
+use Rattle.listing.proofs.Lines.{log-line}
+use borrow.Author.Needs.{needs}
+use Rattle.listing.proofs.put_log.Statement.{statement}
+use Rattle.listing.proofs.put_log.Tie as tie
+
+slice-aggregate-put-bytes : tie.Need-slice-aggregate-put-bytes
+slice-aggregate-put-bytes c = search needs
+
+put-bytes-requires : tie.Need-put-bytes-requires
+put-bytes-requires c κs = search needs
+
+put-entries-requires : tie.Need-put-entries-requires
+put-entries-requires c κs = search needs
+
+put-requires : tie.Need-put-requires
+put-requires c κs = search needs
+
+same-length : tie.Need-same-length
+same-length c = search needs
+
+returns : tie.Need-returns
+unfolding text
+returns c =
+    let end = c .before .before in
+    let entries = end .before .before .before .before in
+    let word = entries .before .before .before .before in
+    log-line _ _ _ (word .put-bytes .ensures) (entries .put-entries .ensures) (end .put .ensures)
+
+pub put-log-spec : {M : Type 1} → statement M
+put-log-spec =
+    tie.close
+    (tie.spec
+    slice-aggregate-put-bytes
+    put-bytes-requires
+    put-entries-requires
+    put-requires
+    same-length
+    returns)
