@@ -1,0 +1,111 @@
+-- From what the reader, the run and the listing leave to the response to a file.
+-- Assumes nothing.
+use mathlib.Core.Path.{_≡_, refl, sym, ap, subst, _∙_}
+use Prim.Native.Nat.{ℕ, _≤_}
+use mathlib.Core.Bool.{Bool, true, false, cond}
+use mathlib.Core.List.{List}
+use native.Mathlib.Omega.{arith}
+use lib.Dec.{eqb, leb}
+use lib.ListN.{length, take, drop}
+use lib.Seq.{take-at}
+use borrow.Author.Tests.{eqb-false, ne-eqb, leb-true, leb-false}
+use Rattle.io.specs.Counts.{Counts}
+use Rattle.semantics.specs.declared.Refusal.{Refusal}
+use Rattle.semantics.specs.Refusals.{mostOperations, mostEntries}
+use Rattle.semantics.specs.Run.{Result, over}
+use Rattle.semantics.specs.Text.{Handed, handed}
+use Rattle.semantics.specs.RunFile.{Contents, Reading, contents, mostCells, readerRefusal, acceptedReading, refusedReading, reading}
+use Rattle.semantics.specs.Listing.{listing, refusalText}
+use Rattle.semantics.specs.Response.{runOf, listed, response}
+use Rattle.semantics.proofs.Over.{over-length}
+use Rattle.semantics.proofs.Bounded.{bounded}
+use Rattle.runfile.proofs.Filled.{counts-front}
+
+-- what a run left, listed
+pub run-listed : (operations out : List ℕ) {result left : Result} {h : Handed} → result ≡ left
+    → handed (listing (left .outcome) operations (left .answers) (left .log) (left .cells)) out ≡ h → handed (listed operations result) out ≡ h
+unfolding listed
+run-listed operations out is e = ap (λ (r : Result). handed (listed operations r) out) is ∙ e
+
+-- a refusal, listed with anything
+pub refusal-listed : (number place : ℕ) (operations answers log cells : List ℕ) → (number ≡ 0 → ⊥)
+    → refusalText number place ≡ listing (record { number = number; place = place; done = 0; lost = 0; idle = 0 }) operations answers log cells
+unfolding listing
+refusal-listed number place operations answers log cells h = rw (ne-eqb number 0 h)
+
+take-over : (written old : List ℕ) → take (length written) (over written old) ≡ written
+unfolding over
+take-over written old = take-at written (drop (length written) old) (length written) refl
+
+-- the parts of the slices that the reader wrote
+abbrev pub parts : Reading → Contents
+parts left =
+    record {
+      cells = take (left .loaded .cells) (left .cells);
+      operations = take (left .loaded .operations) (left .operations);
+      schedule = take (left .loaded .entries) (left .schedule);
+    }
+
+parts-back : (h : Contents) (cells operations schedule : List ℕ) → parts (acceptedReading h cells operations schedule) ≡ h
+unfolding acceptedReading
+parts-back h cells operations schedule = λ i.
+    record { cells = take-over (h .cells) cells i; operations = take-over (h .operations) operations i; schedule = take-over (h .schedule) schedule i }
+
+-- the response to a file that was read into slices of the lengths that the reader asks for
+module _ (file : List ℕ) where
+  abbrev refusal : Refusal
+  refusal = readerRefusal file mostCells mostOperations mostEntries
+
+  responds : (z : Bool) → eqb (refusal .number) 0 ≡ z
+      → response file ≡ cond z (listed (contents file .operations) (runOf (contents file))) (refusalText (refusal .number) (refusal .place))
+  unfolding response
+  responds z e = ap (λ z. cond z (listed (contents file .operations) (runOf (contents file))) (refusalText (refusal .number) (refusal .place))) e
+
+  -- what the response is, from what the reader left
+  unfoldable pub Answers : Reading → Type 0
+  Answers left =
+      (left .loaded .number ≡ 0 → response file ≡ listed (parts left .operations) (runOf (parts left)))
+      × ((left .loaded .number ≡ 0 → ⊥) → response file ≡ refusalText (left .loaded .number) (left .loaded .place))
+
+  pub answers : (cells operations schedule : List ℕ) → length cells ≡ mostCells → length operations ≡ mostOperations → length schedule ≡ mostEntries
+      → Answers (reading file cells operations schedule)
+  unfolding Answers response reading acceptedReading refusedReading
+  answers cells operations schedule a b d =
+      let same : readerRefusal file (length cells) (length operations) (length schedule) ≡ refusal = λ i. readerRefusal file (a i) (b i) (d i) in
+      subst (λ (r : Refusal). Answers (cond (eqb (r .number) 0) (acceptedReading (contents file) cells operations schedule) (refusedReading r cells operations schedule)))
+      (sym same) (go (eqb (refusal .number) 0) refl)
+    where
+      go : (z : Bool) → eqb (refusal .number) 0 ≡ z
+          → Answers (cond z (acceptedReading (contents file) cells operations schedule) (refusedReading refusal cells operations schedule))
+      go true e = (
+        λ n. responds true e ∙ ap (λ (h : Contents). listed (h .operations) (runOf h)) (sym (parts-back (contents file) cells operations schedule)),
+        λ n. absurd (n refl),
+      )
+      go false e = (λ n. absurd (eqb-false (refusal .number) 0 e n), λ n. responds false e)
+
+-- a text that was handed over: its bytes are inside the slice, and one that fits is not refused
+module _ (bytes out : List ℕ) where
+  unfoldable pub Hands : Handed → Type 0
+  Hands h = (length bytes ≤ length out → h .written .number ≡ 0) × Counts (h .written .length) (h .out)
+
+  hands : Hands (handed bytes out)
+  unfolding Hands handed
+  hands = go (leb (length bytes) (length out)) refl
+    where
+      go : (z : Bool) → leb (length bytes) (length out) ≡ z
+          → Hands (cond z (record { written = record { number = 0; place = 0; length = length bytes }; out = over bytes out })
+          (record { written = record { number = 3; place = 0; length = 0 }; out = out }))
+      go true e = let b = leb-true (length bytes) (length out) e in (λ h. refl, counts-front (length bytes) (over bytes out) (omega (arith, over-length bytes out b)))
+      go false e = (λ h. absurd (omega (arith, leb-false (length bytes) (length out) e)), counts-front 0 out (omega arith))
+
+-- every clause of the promise
+module _ (file out : List ℕ) where
+  abbrev Promise : Handed → Type 0
+  Promise h =
+      (handed (response file) out ≡ h) × ((98304 ≤ length out → h .written .number ≡ 0) × Counts (h .written .length) (h .out))
+
+  pub kept : (bytes : List ℕ) (h : Handed) → response file ≡ bytes → handed bytes out ≡ h → Promise h
+  unfolding Hands
+  kept bytes h is e =
+      let (whole, inside) = hands (response file) out in
+      subst Promise (ap (λ (b : List ℕ). handed b out) is ∙ e) (refl, (λ b. whole (omega (arith, bounded file)), inside))

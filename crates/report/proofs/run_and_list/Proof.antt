@@ -1,0 +1,39 @@
+use borrow.Author.Needs.{needs}
+use Rattle.report.proofs.Responded.{run-listed}
+use Rattle.report.proofs.run_and_list.Statement.{statement}
+use Rattle.report.proofs.run_and_list.Tie as tie
+use Rattle.listing.proofs.list.Reads as list-reads
+use Rattle.run.proofs.run.Reads as run-reads
+
+run-requires : tie.Need-run-requires
+run-requires c κs = search needs
+
+list-requires : tie.Need-list-requires
+list-requires c κs = search needs
+
+same-length : tie.Need-same-length
+same-length c = search needs
+
+same-length-2 : tie.Need-same-length-2
+same-length-2 c = search needs
+
+same-length-3 : tie.Need-same-length-3
+same-length-3 c = search needs
+
+same-length-4 : tie.Need-same-length-4
+same-length-4 c = search needs
+
+returns : tie.Need-returns
+returns c = run-listed _ _ (c .before .before .before .before .before .before .before .before .before .before .before .before .before .run .ensures .0) (c .before .before .list .ensures)
+
+pub run-and-list-spec : {M : Type 1} → statement M
+run-and-list-spec =
+    tie.close
+    (tie.spec
+    run-requires
+    list-requires
+    same-length
+    same-length-2
+    same-length-3
+    same-length-4
+    returns)
