@@ -7,68 +7,17 @@ ghost use mathlib.Core.List.{_++_};
 ghost use Prim.Native.Nat.{min};
 ghost use lib.ListN.{length, getD};
 ghost use Rattle.semantics.specs.Text.{text, decimal, textsBelow, handed};
-ghost use Rattle.semantics.specs.Listing.{refusalText, countsText, operationText, answerText, rowText, logText, contentsText, cellText, listing};
+ghost use Rattle.semantics.specs.Listing.{rowText, logText, cellText, listing};
 ghost use Rattle.text.specs.Writing.{written};
+use lines::put_cell;
+use lines::put_counts;
+use lines::put_refusal;
+use lines::put_row;
 use semantics::Outcome;
 use semantics::Written;
 use text::put;
 use text::put_bytes;
-use text::put_code;
-use text::put_kind;
 use text::put_labelled;
-use text::put_total;
-use word::answer_code;
-use word::answer_total;
-use word::cell_key;
-use word::cell_total;
-use word::operation_amount;
-use word::operation_key;
-use word::operation_kind;
-
-// The line of a refusal.
-fn put_refusal(out: &mut [u8], at: usize, number: u32, place: usize) -> usize
-    ensures { λ r. ⌜ written (record { at = at; out = now (out .entry) }) (refusalText number place) ≡ record { at = r; out = now (out .exit) } ⌝ }
-{
-    let at1 = put_labelled(out, at, b"refused ", number as u64);
-    let at2 = put_labelled(out, at1, b" at ", place as u64);
-    put(out, at2, 10)
-}
-
-// The line of the counts.
-fn put_counts(out: &mut [u8], at: usize, rows: usize, outcome: Outcome) -> usize
-    ensures { λ r. ⌜ written (record { at = at; out = now (out .entry) }) (countsText rows outcome) ≡ record { at = r; out = now (out .exit) } ⌝ }
-{
-    let at1 = put_labelled(out, at, b"rows ", rows as u64);
-    let at2 = put_labelled(out, at1, b" done ", outcome.done as u64);
-    let at3 = put_labelled(out, at2, b" lost ", outcome.lost as u64);
-    let at4 = put_labelled(out, at3, b" idle ", outcome.idle as u64);
-    put(out, at4, 10)
-}
-
-// An operation's line, as far as the operation goes, and the rest of it, of the answer.
-fn put_operation(out: &mut [u8], at: usize, i: usize, operation: u64) -> usize
-    ensures { λ r. ⌜ written (record { at = at; out = now (out .entry) }) (operationText i operation) ≡ record { at = r; out = now (out .exit) } ⌝ }
-{
-    let at1 = put_labelled(out, at, b"row ", i as u64);
-    let at2 = put_kind(out, at1, operation_kind(operation));
-    let at3 = put_labelled(out, at2, b" ", operation_key(operation) as u64);
-    put_total(out, at3, operation_amount(operation))
-}
-
-fn put_answer(out: &mut [u8], at: usize, answer: u32) -> usize
-    ensures { λ r. ⌜ written (record { at = at; out = now (out .entry) }) (answerText answer) ≡ record { at = r; out = now (out .exit) } ⌝ }
-{
-    let at1 = put_code(out, at, answer_code(answer));
-    put_total(out, at1, answer_total(answer))
-}
-
-fn put_row(out: &mut [u8], at: usize, i: usize, operation: u64, answer: u32) -> usize
-    ensures { λ r. ⌜ written (record { at = at; out = now (out .entry) }) (rowText i operation answer) ≡ record { at = r; out = now (out .exit) } ⌝ }
-{
-    let at1 = put_operation(out, at, i, operation);
-    let at2 = put_answer(out, at1, answer);
-    put(out, at2, 10)
-}
 
 // The answer of operation i; 0, unfinished, where the slice has none.
 fn answer_of(answers: &[u32], i: usize) -> u32
@@ -124,29 +73,6 @@ fn put_log(out: &mut [u8], at: usize, done: usize, log: &[u8]) -> usize
 {
     let at1 = put_bytes(out, at, b"log");
     let at2 = put_entries(out, at1, done, log);
-    put(out, at2, 10)
-}
-
-// What a cell that is not empty holds.
-fn put_contents(out: &mut [u8], at: usize, w: u32) -> usize
-    ensures { λ r. ⌜ written (record { at = at; out = now (out .entry) }) (contentsText w) ≡ record { at = r; out = now (out .exit) } ⌝ }
-{
-    if w == 0xffff0000 {
-        return put_bytes(out, at, b" gone");
-    }
-    let at1 = put_labelled(out, at, b" ", cell_key(w) as u64);
-    put_total(out, at1, cell_total(w))
-}
-
-// The line of a cell; none for an empty one.
-fn put_cell(out: &mut [u8], at: usize, i: usize, w: u32) -> usize
-    ensures { λ r. ⌜ written (record { at = at; out = now (out .entry) }) (cellText i w) ≡ record { at = r; out = now (out .exit) } ⌝ }
-{
-    if w == 0 {
-        return at;
-    }
-    let at1 = put_labelled(out, at, b"cell ", i as u64);
-    let at2 = put_contents(out, at1, w);
     put(out, at2, 10)
 }
 

@@ -1,15 +1,19 @@
-// The records of a run file (document 01, "The run file"): what stands at an offset, whether the
-// record there is turned away, and where the record after it begins. Nothing here has a state: a
-// position goes in, and the next one comes out, so every reader of these records can judge or fill
-// by the same function.
+// The records of a run file (document 01, "The run file"): whether the record at a position is turned
+// away, and where the record after it begins. Nothing here has a state: a position goes in, and the
+// next one comes out, so every reader of these records can judge or fill by the same function.
 ghost use mathlib.Core.Path.{_≡_};
 ghost use mathlib.Core.Bool.{_||_};
 ghost use Prim.Native.Nat.{_+_, _≤_};
 ghost use lib.Dec.{eqb, leb, ltb};
 ghost use lib.ListN.{length};
 ghost use Rattle.semantics.specs.Records.{faultAt};
-ghost use Rattle.semantics.specs.RunFile.{byteAt, pairAt, hasMark, markAt, partOf, mayFollow, sizeOf, isBodyWrong, isOneTooMany, past, start, runFile};
+ghost use Rattle.semantics.specs.RunFile.{markAt, sizeOf, isBodyWrong, isOneTooMany, past, start, runFile};
 ghost use Rattle.record.specs.Reads.{readingAt};
+use mark::byte_at;
+use mark::mark_at;
+use mark::may_follow;
+use mark::pair_at;
+use mark::part_of;
 use semantics::Mark;
 use semantics::Position;
 
@@ -38,86 +42,6 @@ pub fn start() -> Position
         operations: 0,
         entries: 0,
     }
-}
-
-// The byte at an offset, and the one after it; 0 past the end.
-pub fn byte_at(file: &[u8], at: usize) -> u8
-    ensures { λ r. ⌜ r ≡ byteAt (now (file .entry)) at ⌝ }
-{
-    if at < file.len() {
-        return file[at];
-    }
-    0
-}
-
-fn byte_after(file: &[u8], at: usize) -> u8
-    ensures { λ r. ⌜ r ≡ byteAt (now (file .entry)) (at + 1) ⌝ }
-{
-    if at < file.len() {
-        return byte_at(file, at + 1);
-    }
-    0
-}
-
-// A number of two bytes, the high byte first.
-pub fn pair_at(file: &[u8], at: usize) -> u16
-    ensures { λ r. ⌜ r ≡ pairAt (now (file .entry)) at ⌝ }
-{
-    (byte_at(file, at) as u16) * 256 + (byte_after(file, at) as u16)
-}
-
-// Whether a mark of two letters stands at an offset.
-fn has_mark(file: &[u8], at: usize, mark: &[u8; 2]) -> bool
-    ensures { λ r. ⌜ r ≡ hasMark (now (file .entry)) at (now (mark .entry)) ⌝ }
-{
-    if byte_at(file, at) == mark[0] {
-        return byte_after(file, at) == mark[1];
-    }
-    false
-}
-
-fn mark_at(file: &[u8], at: usize) -> Mark
-    ensures { λ r. ⌜ r ≡ markAt (now (file .entry)) at ⌝ }
-{
-    if has_mark(file, at, b"TB") {
-        return Mark::Table;
-    }
-    if has_mark(file, at, b"CL") {
-        return Mark::Cell;
-    }
-    if has_mark(file, at, b"OP") {
-        return Mark::Operation;
-    }
-    if has_mark(file, at, b"SC") {
-        return Mark::Schedule;
-    }
-    Mark::Unknown
-}
-
-// The order of the records: the part of the file that a mark belongs to, and whether a record of a
-// part may follow one of the part before, 0 before the first.
-fn part_of(mark: Mark) -> u8
-    ensures { λ r. ⌜ r ≡ partOf mark ⌝ }
-{
-    match mark {
-        Mark::Unknown => 0,
-        Mark::Table => 1,
-        Mark::Cell => 2,
-        Mark::Operation => 3,
-        Mark::Schedule => 4,
-    }
-}
-
-fn may_follow(before: u8, part: u8) -> bool
-    ensures { λ r. ⌜ r ≡ mayFollow before part ⌝ }
-{
-    if before == 0 {
-        return part == 1;
-    }
-    if 1 < part {
-        return before <= part;
-    }
-    false
 }
 
 // How many bytes the record at an offset has, the mark included.

@@ -32,13 +32,13 @@ use Rattle.semantics.proofs.Start.{Passed}
 use Rattle.semantics.proofs.Tests.{passed as test-passed}
 use Rattle.semantics.proofs.Words.{operation-parts, encode-decode-all}
 use Rattle.semantics.proofs.WordsHold as hold
-use Rattle.word.proofs.Sets.{in-none, in-including, size-none, size-including}
+use Rattle.sets.proofs.Sets.{in-none, in-including, size-none, size-including}
 use Rattle.step.specs.declared.Progress.{Progress}
 use Rattle.step.specs.declared.Event.the-variants.{Finished, Lost}
 use Rattle.step.specs.declared.Stepped.{Stepped}
 use Rattle.step.specs.Progress.{Left, stepTaken}
 use Rattle.step.proofs.Represents.{recordOf, record-at, eventOf, step-is}
-use Rattle.run.specs.Records.{blank, atHome, firstRecords}
+use Rattle.begin.specs.Records.{blank, atHome, firstRecords}
 use Rattle.semantics.proofs.Over.{over-none, over-over, over-get, over-set, over-next, over-length}
 
 -- the record of a row, in c cells
@@ -131,7 +131,8 @@ module _ {call : Call} (ok : Passed call) where
   records-first =
       let first = rules.freshRow S in
       ap (λ l. over l blank)
-      (map-each (atHome c) (λ w. rowRecord c (first (decodeOperation w))) (call .operations) 0 home-is
+      (ap (map (atHome c)) (take-all 64 (call .operations) (ok .few))
+      ∙ map-each (atHome c) (λ w. rowRecord c (first (decodeOperation w))) (call .operations) 0 home-is
       ∙ sym (map-map (λ o. rowRecord c (first o)) decodeOperation (call .operations))
       ∙ sym (map-map (rowRecord c) first (map decodeOperation (call .operations))))
 

@@ -2,22 +2,18 @@
 // judged first, and only then is anything written; each entry then takes one step of the operation
 // that it names, or is idle.
 ghost use mathlib.Core.Path.{_≡_};
-ghost use Prim.Native.Nat.{_≤_};
 ghost use lib.Count.{ones};
-ghost use lib.ListN.{length, take};
+ghost use lib.ListN.{take};
 ghost use Rattle.semantics.specs.Run.{machine, refusalOf, acceptedResult, runResult, LinearizableWords, TotalsWords};
-ghost use Rattle.run.specs.Records.{firstRecords};
+use advance::take_step;
+use begin::begin;
 use semantics::Outcome;
+use sets::has;
+use sets::size;
+use sets::with;
 use step::Event;
-use step::Progress;
-use step::take_step;
 use validate::validate;
 use word::clear;
-use word::has;
-use word::operation_key;
-use word::room_home;
-use word::size;
-use word::with;
 
 // What the entries come to beside the slices: which operations have finished, how many swaps were
 // lost and how many entries were idle.
@@ -25,21 +21,6 @@ struct Ran {
     finished: u64,
     lost: usize,
     idle: usize,
-}
-
-// Each operation reads first at the home of its key.
-fn begin(c: u32, operations: &[u64]) -> [Progress; 64]
-    requires { ⌜ length (now operations) ≤ 64 ⌝ }
-    ensures { λ r. ⌜ r ≡ firstRecords c (now (operations .entry)) ⌝ }
-{
-    let mut records = [Progress::begin(0); 64];
-    let mut i = 0;
-    while i < operations.len() {
-        let key = operation_key(operations[i]);
-        records[i] = Progress::begin(room_home(key as u32, c) as usize);
-        i = i + 1;
-    }
-    records
 }
 
 // Takes the schedule's entries in turn, on a call that is not turned away.

@@ -2,7 +2,7 @@
 -- Assumes nothing.
 use Prim.Native.Nat.{ℕ, _+_, _-_, _%_}
 use mathlib.Core.Bool.{Bool, cond, not, _||_, _&&_}
-use mathlib.Core.List.{List, [], _∷_}
+use mathlib.Core.List.{List, [], _∷_, _++_}
 use lib.Dec.{eqb, leb, ltb}
 use lib.ListN.{length, getD}
 use Rattle.semantics.specs.Basics.{firstBelow, someBelow}
@@ -99,17 +99,18 @@ module _ (call : Call) where
   unfoldable pub unreachableKey : Condition
   unreachableKey = atFirst 8 (length (call .cells)) (isUnreachable (call .cells))
 
+  -- the conditions in table order, by the table's first column: "run, slices", "run, words" and "run, whole table"
+  abbrev pub slicesConditions : List Condition
+  slicesConditions = sizeNotAllowed ∷ tooMany ∷ tooShort ∷ []
+
+  abbrev pub wordsConditions : List Condition
+  wordsConditions = badCell ∷ badOperation ∷ badEntry ∷ []
+
+  abbrev pub tableConditions : List Condition
+  tableConditions = repeatedKey ∷ unreachableKey ∷ []
+
   unfoldable pub runConditions : List Condition
-  runConditions =
-      sizeNotAllowed
-      ∷ tooMany
-      ∷ tooShort
-      ∷ badCell
-      ∷ badOperation
-      ∷ badEntry
-      ∷ repeatedKey
-      ∷ unreachableKey
-      ∷ []
+  runConditions = slicesConditions ++ wordsConditions ++ tableConditions
 
   unfoldable pub runRefusal : Refusal
   runRefusal = firstMet runConditions

@@ -1,3 +1,2 @@
-pub mod Rules
-pub mod Lent
+pub mod Steps
 pub mod Represents

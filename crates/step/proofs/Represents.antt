@@ -20,14 +20,15 @@ use Rattle.semantics.specs.Step as rules
 use Rattle.semantics.specs.Words.{encode, decodeOperation, answerWord, narrowSetting, isKind, kindBits, totalBits, homeIn}
 use Rattle.semantics.proofs.RunPacks.{Stands}
 use Rattle.semantics.proofs.Words.{Packs, decode-encode, encode-allowed, same-words, live-bounds}
+use Rattle.turn.specs.declared.Turn.the-variants.{Lose}
+use Rattle.turn.specs.declared.Taken.{Taken}
+use Rattle.turn.specs.Turn.{turnOf, heldOf, readTurn, swapWon, swapTaken, readIf, swapIf}
 use Rattle.step.specs.declared.Progress.{Progress}
 use Rattle.step.specs.declared.Event.{Event}
 use Rattle.step.specs.declared.Event.the-variants.{Passed, Held as WordHeld, Lost, Finished}
 use Rattle.step.specs.declared.Stepped.{Stepped}
-use Rattle.step.specs.declared.Turn.the-variants.{Lose}
-use Rattle.step.specs.declared.Taken.{Taken}
-use Rattle.step.specs.Progress.{following, finishing, turnOf, turned, heldOf, readTurn, swapWon, swapTaken, readIf, swapIf, taken, leftBy, stepTaken}
-use Rattle.step.proofs.Rules.{step-takes}
+use Rattle.step.specs.Progress.{following, finishing, turned, taken, leftBy, stepTaken}
+use Rattle.step.proofs.Steps.{step-takes}
 
 -- the event of a turn
 unfoldable pub eventOf : Turn Total → Event

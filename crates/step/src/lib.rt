@@ -3,22 +3,13 @@
 // stands and stores at most that cell. What is offered takes every input: a record that is not one
 // of an unfinished operation, or a kind that is none, takes no step, and nothing changes.
 ghost use mathlib.Core.Path.{_≡_};
-ghost use mathlib.Core.Bool.{true, _&&_};
-ghost use Prim.Native.Nat.{ℕ, _+_, _*_, _<_};
-ghost use lib.Dec.{eqb};
+ghost use Prim.Native.Nat.{_<_};
 ghost use lib.ListN.{set};
-ghost use Rattle.semantics.specs.Words.{keyOf, totalBits, kindBits, isLiveKey, isKind, decodeOperation};
-ghost use Rattle.step.specs.Progress.{begun, passing, holding, losing, finishing, turned};
-ghost use Rattle.step.specs.Progress.{ruleIf, ruleOf, readTurn, swapWon, readIf, swapIf, taken, stepTaken};
-use word::answer_word;
-use word::cell_key;
-use word::cell_total;
-use word::cell_word;
-use word::is_live_key;
-use word::operation_amount;
-use word::operation_key;
-use word::operation_kind;
-use word::room_sum;
+ghost use Rattle.step.specs.Progress.{begun, passing, holding, losing, finishing, turned, taken, stepTaken};
+use turn::Taken;
+use turn::Turn;
+use turn::look;
+use turn::swap;
 
 // How far an operation has come (document 01: a row's record): the cell that it reads next, how
 // many cells it has passed, the word that it holds if it holds one, and its answer, 0 until it
@@ -44,32 +35,6 @@ pub enum Event {
 pub struct Stepped {
     pub progress: Progress,
     pub event: Event,
-}
-
-// How a record turns: it passes on, holds a word, loses its swap or finishes with an answer; or it
-// takes no step.
-enum Turn {
-    Pass,
-    Hold(u32),
-    Lose,
-    Finish(u32),
-    Refuse,
-}
-
-// The word that a step leaves in its cell, and how the record turns.
-struct Taken {
-    word: u32,
-    turn: Turn,
-}
-
-// What a kind of operation does: whether it makes a missing key; and where its key has a total,
-// whether it finishes at the read, the word that its swap stores, and what it answers.
-struct Rule {
-    known: bool,
-    makes: bool,
-    stays: bool,
-    word: u32,
-    answer: u32,
 }
 
 impl Progress {
@@ -180,164 +145,12 @@ impl Progress {
     }
 }
 
-// Document 01's answer codes of answers with a total, and the answers that carry none.
-const FOUND: u8 = 1;
-
-const PRESENT: u8 = 3;
-
-const CHANGED: u8 = 4;
-
-const REMOVED: u8 = 5;
-
-const INSERTED: u32 = 2 * 65536;
-
-const ABSENT: u32 = 6 * 65536;
-
-const FULL: u32 = 7 * 65536;
-
-// The read rule and the new word of a kind, where the operation's key has the total of a word; any
-// other number than a kind's is refused. The rule is the same in a table of any size.
-fn rule_of(operation: u64, word: u32) -> Rule
-    ensures { λ r. ⌜ ((c : ℕ) → r ≡ ruleOf c operation (totalBits word)) ⌝ }
-{
-    let total = cell_total(word);
-    let key = operation_key(operation);
-    let amount = operation_amount(operation);
-    let kind = operation_kind(operation);
-    match kind {
-        1 => known(false, true, FOUND, total, key, total),
-        2 => known(true, true, PRESENT, total, key, total),
-        3 => known(false, false, CHANGED, total, key, amount),
-        4 => known(
-            true,
-            false,
-            CHANGED,
-            total,
-            key,
-            room_sum(total, amount) as u16,
-        ),
-        5 => known(false, false, REMOVED, total, 65535, 0),
-        _ => Rule {
-            known: false,
-            makes: false,
-            stays: false,
-            word: 0,
-            answer: 0,
-        },
-    }
-}
-
-// The rule of a kind that answers a code with the old total, and stores a key with a new one.
-fn known(makes: bool, stays: bool, code: u8, old: u16, key: u16, new: u16) -> Rule
-    ensures { λ r. ⌜ r ≡ record { known = true; makes = makes; stays = stays; word = key * 65536 + new; answer = code * 65536 + old } ⌝ }
-{
-    Rule {
-        known: true,
-        makes: makes,
-        stays: stays,
-        word: cell_word(key, new),
-        answer: answer_word(code, old),
-    }
-}
-
-// Whether a word is a cell of a live key.
-fn is_own(key: u16, word: u32) -> bool
-    ensures { λ r. ⌜ r ≡ (isLiveKey key && eqb key (keyOf word)) ⌝ }
-{
-    if cell_key(word) == key {
-        return is_live_key(key);
-    }
-    false
-}
-
-// A read of a word, with some of c cells passed before it.
-fn read(operation: u64, c: usize, passed: usize, word: u32, rule: Rule) -> Turn
-    requires { ⌜ (passed < c) × (rule ≡ ruleIf true c (decodeOperation operation) (totalBits word)) ⌝ }
-    ensures { λ r. ⌜ r ≡ readTurn c operation passed word ⌝ }
-{
-    if word == 0 {
-        if rule.makes {
-            return Turn::Hold(0);
-        }
-        return Turn::Finish(ABSENT);
-    }
-    if is_own(operation_key(operation), word) {
-        if rule.stays {
-            return Turn::Finish(rule.answer);
-        }
-        return Turn::Hold(word);
-    }
-    if c - passed == 1 {
-        if rule.makes {
-            return Turn::Finish(FULL);
-        }
-        return Turn::Finish(ABSENT);
-    }
-    Turn::Pass
-}
-
-// A swap that is won: on an empty cell the key and the amount are stored.
-fn won(operation: u64, c: usize, held: u32, rule: Rule) -> Taken
-    requires { ⌜ rule ≡ ruleIf true c (decodeOperation operation) (totalBits held) ⌝ }
-    ensures { λ r. ⌜ r ≡ swapWon c operation held ⌝ }
-{
-    if held == 0 {
-        return Taken {
-            word: cell_word(operation_key(operation), operation_amount(operation)),
-            turn: Turn::Finish(INSERTED),
-        };
-    }
-    Taken {
-        word: rule.word,
-        turn: Turn::Finish(rule.answer),
-    }
-}
-
-// A compare-and-swap: the cell is stored if it still equals the held word.
-fn swap(operation: u64, c: usize, held: u32, word: u32) -> Taken
-    ensures { λ r. ⌜ r ≡ swapIf c operation (isKind (kindBits operation)) held word ⌝ }
-{
-    let rule = rule_of(operation, held);
-    if rule.known {
-        if word == held {
-            return won(operation, c, held, rule);
-        }
-        return Taken {
-            word: word,
-            turn: Turn::Lose,
-        };
-    }
-    Taken {
-        word: word,
-        turn: Turn::Refuse,
-    }
-}
-
-// A read: the word stays as it is.
-fn look(operation: u64, c: usize, passed: usize, word: u32) -> Taken
-    requires { ⌜ passed < c ⌝ }
-    ensures { λ r. ⌜ r ≡ readIf c operation (isKind (kindBits operation)) passed word ⌝ }
-{
-    let rule = rule_of(operation, word);
-    if rule.known {
-        return Taken {
-            word: word,
-            turn: read(operation, c, passed, word, rule),
-        };
-    }
-    Taken {
-        word: word,
-        turn: Turn::Refuse,
-    }
-}
-
 // One step of a record that is not finished, on the one word that it reads.
 fn take(operation: u64, c: usize, progress: Progress, word: u32) -> Taken
-    requires { ⌜ progress .passed < c ⌝ }
     ensures { λ r. ⌜ r ≡ taken c operation progress word ⌝ }
 {
     if progress.holds {
-        return swap(operation, c, progress.held, word);
+        return swap(operation, progress.held, word);
     }
     look(operation, c, progress.passed, word)
 }
@@ -363,29 +176,5 @@ pub fn step(cells: &mut [u32], operation: u64, progress: Progress) -> Stepped
     Stepped {
         progress: progress,
         event: Event::Refused,
-    }
-}
-
-// The same over a lent record: the record changes in place, and the event is handed back.
-pub fn advance(cells: &mut [u32], operation: u64, progress: &mut Progress) -> Event
-    ensures { λ r. ⌜ (r ≡ stepTaken (now (cells .entry)) operation (now (progress .entry)) .stepped .event)
-        × (now (progress .exit) ≡ stepTaken (now (cells .entry)) operation (now (progress .entry)) .stepped .progress)
-        × (now (cells .exit) ≡ set (now (cells .entry)) (now (progress .entry) .at) (stepTaken (now (cells .entry)) operation (now (progress .entry)) .word)) ⌝ }
-{
-    let stepped = step(cells, operation, *progress);
-    *progress = stepped.progress;
-    stepped.event
-}
-
-// The same for callers that keep their records by value: a local record is lent and handed back.
-pub fn take_step(cells: &mut [u32], operation: u64, progress: Progress) -> Stepped
-    ensures { λ r. ⌜ (r ≡ stepTaken (now (cells .entry)) operation progress .stepped)
-        × (now (cells .exit) ≡ set (now (cells .entry)) (progress .at) (stepTaken (now (cells .entry)) operation progress .word)) ⌝ }
-{
-    let mut record = progress;
-    let event = advance(cells, operation, &mut record);
-    Stepped {
-        progress: record,
-        event: event,
     }
 }

@@ -2,8 +2,6 @@
 -- Assumes nothing.
 use Prim.Native.Nat.{ℕ, _+_, min}
 use mathlib.Core.List.{List, [], _∷_}
-use mathlib.Core.Bool.{cond}
-use lib.Dec.{eqb}
 use lib.ListN.{set}
 
 -- the largest position that is counted: no slice is as long
@@ -22,8 +20,3 @@ put w b = record { at = min (w .at + 1) lastPosition; out = set (w .out) (w .at)
 unfoldable pub written : Writing → List ℕ → Writing
 written w [] = w
 written w (b ∷ more) = written (put w b) more
-
--- the letters of a word, up to the first blank
-unfoldable pub untilBlank : List ℕ → List ℕ
-untilBlank [] = []
-untilBlank (b ∷ more) = cond (eqb b 32) [] (b ∷ untilBlank more)

@@ -2,21 +2,23 @@
 -- Assumes nothing.
 use mathlib.Core.Path.{_≡_, refl, sym, ap, _∙_}
 use Prim.Native.Nat.{ℕ}
-use mathlib.Core.Bool.{true}
-use mathlib.Core.List.{_++_}
+use mathlib.Core.List.{List, [], _∷_, _++_}
 use native.Mathlib.Omega.{arith}
-use lib.ListN.{length}
-use borrow.Author.Tests.{not-false}
 use Rattle.semantics.specs.declared.Refusal.{Refusal}
-use Rattle.semantics.specs.Words.{sizeAllowed}
-use Rattle.semantics.specs.Refusals.{Call, firstMet, atFirst, runConditions, runRefusal}
+use Rattle.semantics.specs.Refusals.{Call, callOf, Condition, firstMet, atFirst}
 use Rattle.semantics.specs.Refusals.{sizeNotAllowed, tooMany, tooShort, badCell, badOperation, badEntry, repeatedKey, unreachableKey}
+use Rattle.semantics.specs.Refusals.{slicesConditions, wordsConditions, tableConditions, runConditions, runRefusal}
 use Rattle.semantics.proofs.Start.{NoneMet, none-met, met-early, met-late}
-use Rattle.validate.specs.Parts.{slicesConditions, wordsConditions, tableConditions}
 
 module _ (call : Call) where
-  in-parts : runRefusal call
-      ≡ firstMet (slicesConditions call ++ (wordsConditions (call .cells) (call .operations) (call .schedule) ++ tableConditions (call .cells)))
+  -- the second and the third part, for the slices that they depend on
+  abbrev words : List Condition
+  words = wordsConditions (callOf (call .cells) (call .operations) (call .schedule) 0 0)
+
+  abbrev table : List Condition
+  table = tableConditions (callOf (call .cells) [] [] 0 0)
+
+  in-parts : runRefusal call ≡ firstMet (slicesConditions call ++ (words ++ table))
   unfolding runRefusal runConditions badCell badOperation badEntry repeatedKey unreachableKey
   in-parts = refl
 
@@ -29,17 +31,15 @@ module _ (call : Call) where
       unfolding sizeNotAllowed tooMany tooShort
       none = none-met (slicesConditions call) (omega arith) (ap (λ (r : Refusal). r .number) slices ∙ accepted)
 
-      pub size-is-allowed : sizeAllowed (length (call .cells)) ≡ true
-      unfolding sizeNotAllowed
-      size-is-allowed = not-false (sizeAllowed (length (call .cells))) (none .0)
-
-      module _ {words : Refusal} (is : words ≡ firstMet (wordsConditions (call .cells) (call .operations) (call .schedule))) where
-        pub by-words : (words .number ≡ 0 → ⊥) → words ≡ runRefusal call
+      module _ {w : Refusal} (is : w ≡ firstMet words) where
+        pub by-words : (w .number ≡ 0 → ⊥) → w ≡ runRefusal call
         by-words h = is ∙ sym (in-parts ∙ met-late (slicesConditions call) _ none ∙ met-early _ _ (λ e. h (ap (λ (r : Refusal). r .number) is ∙ e)))
 
-        pub by-table : words .number ≡ 0 → {r : Refusal} → r ≡ firstMet (tableConditions (call .cells)) → r ≡ runRefusal call
-        unfolding badCell badOperation badEntry atFirst
+        -- the size, which the third part's function judges once more, is allowed
+        pub by-table : w .number ≡ 0 → {r : Refusal} → r ≡ firstMet (sizeNotAllowed (callOf (call .cells) [] [] 0 0) ∷ table) → r ≡ runRefusal call
+        unfolding sizeNotAllowed badCell badOperation badEntry atFirst
         by-table e q =
-            let conditions = wordsConditions (call .cells) (call .operations) (call .schedule) in
-            let words-none = none-met conditions (omega arith) (sym (ap (λ (r : Refusal). r .number) is) ∙ e) in
-            q ∙ sym (in-parts ∙ met-late (slicesConditions call) _ none ∙ met-late conditions _ words-none)
+            let words-none = none-met words (omega arith) (sym (ap (λ (r : Refusal). r .number) is) ∙ e) in
+            q
+            ∙ met-late (sizeNotAllowed call ∷ []) table (none .0, tt)
+            ∙ sym (in-parts ∙ met-late (slicesConditions call) _ none ∙ met-late words _ words-none)

@@ -1,3 +1,1 @@
 pub mod Packed
-pub mod Powers
-pub mod Sets

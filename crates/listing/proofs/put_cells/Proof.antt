@@ -9,7 +9,7 @@ use Rattle.semantics.specs.Text.{textsBelow}
 use Rattle.semantics.specs.Listing.{cellText}
 use Rattle.text.specs.Writing.{written}
 use Rattle.text.proofs.Writing.{same-text, same-length as kept-length}
-use Rattle.listing.proofs.Lines.{no-text, next-text}
+use Rattle.listing.proofs.Listed.{no-text, next-text}
 use borrow.Author.Needs.{needs}
 use Rattle.listing.proofs.put_cells.Statement.{statement}
 use Rattle.listing.proofs.put_cells.Tie as tie

@@ -1,6 +1,6 @@
 -- `listing::put_listing` meets its contract.
 -- Assumes nothing.
-use Rattle.listing.proofs.Lines.{run-lines, one-line}
+use Rattle.listing.proofs.Listed.{run-lines, one-line}
 use borrow.Author.Needs.{needs}
 use Rattle.listing.proofs.put_listing.Statement.{statement}
 use Rattle.listing.proofs.put_listing.Tie as tie

@@ -1,7 +1,7 @@
 -- `listing::put_log` meets its contract.
 -- Assumes nothing.
 use Rattle.semantics.specs.Text.{text}
-use Rattle.listing.proofs.Lines.{log-line}
+use Rattle.listing.proofs.Listed.{log-line}
 use borrow.Author.Needs.{needs}
 use Rattle.listing.proofs.put_log.Statement.{statement}
 use Rattle.listing.proofs.put_log.Tie as tie

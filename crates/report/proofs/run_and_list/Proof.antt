@@ -2,8 +2,6 @@ use borrow.Author.Needs.{needs}
 use Rattle.report.proofs.Responded.{run-listed}
 use Rattle.report.proofs.run_and_list.Statement.{statement}
 use Rattle.report.proofs.run_and_list.Tie as tie
-use Rattle.listing.proofs.list.Reads as list-reads
-use Rattle.run.proofs.run.Reads as run-reads
 
 run-requires : tie.Need-run-requires
 run-requires c κs = search needs

@@ -89,7 +89,7 @@ cast-begin : tie.Need-cast-begin Inv-loop μ-loop
 cast-begin c = record { fits = omega (arith, allowed-bounds _ (ok (c .before .before .before .before .before .before .before .before .before) .size)) }
 
 begin-requires : tie.Need-begin-requires Inv-loop μ-loop
-begin-requires c κs = ok (c .before .before .before .before .before .before .before .before .before) .few
+begin-requires c κs = search needs
 
 loop-holds : tie.Need-loop-holds Inv-loop μ-loop
 loop-holds c = (omega arith, at-start (ok (c .before .before .before .before .before .before .before .before .before .before)) _ (cleared (c .before .before .before)) (c .begin .ensures))

@@ -2,6 +2,7 @@
 -- Assumes nothing.
 use mathlib.Core.Path.{_≡_}
 use mathlib.Core.Bool.{false, _||_}
+use native.Mathlib.Omega.{arith}
 use lib.Dec.{ltb}
 use borrow.Author.Tests.{lt-ltb, le-ltb}
 use Rattle.runfile.proofs.Refused.{slice-is-short, file-is-long, by-records}
@@ -28,14 +29,14 @@ returns-3 c = let a = c .before .before .before .before .args in
 
 returns-4 : tie.Need-returns-4
 returns-4 c = let a = c .before .before .before .before .before .args in
-    file-is-long (a .file .now) (a .cells) (a .operations) (a .schedule) (fit (c .before)) (c .if4 .taken)
+    file-is-long (a .file .now) (a .cells) (a .operations) (a .schedule) (fit (c .before)) (omega (arith, c .if4 .taken))
 
 judge-requires : tie.Need-judge-requires
 judge-requires c κs = search needs
 
 returns-5 : tie.Need-returns-5
 returns-5 c = let a = c .before .before .before .before .before .before .args in
-    by-records (a .file .now) (a .cells) (a .operations) (a .schedule) (fit (c .before .before)) (c .before .if4 .left) (c .judge .ensures)
+    by-records (a .file .now) (a .cells) (a .operations) (a .schedule) (fit (c .before .before)) (omega (arith, c .before .if4 .left)) (c .judge .ensures)
 
 pub refusal-of-spec : {M : Type 1} → statement M
 refusal-of-spec =

@@ -5,7 +5,7 @@ use lib.ListN.{length, set}
 use denote.Ref.{now}
 use borrow.Author.Needs.{needs}
 use Rattle.step.specs.Progress.{Left, leftBy, stepTaken}
-use Rattle.step.proofs.Rules.{finished, all-passed, outside, step-takes, step-refuses}
+use Rattle.step.proofs.Steps.{finished, all-passed, outside, step-takes, step-refuses}
 use Rattle.step.proofs.step.Statement.{statement}
 use Rattle.step.proofs.step.Tie as tie
 

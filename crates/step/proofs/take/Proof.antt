@@ -2,7 +2,7 @@
 -- Assumes nothing.
 use mathlib.Core.Path.{_∙_}
 use borrow.Author.Needs.{needs}
-use Rattle.step.proofs.Rules.{taken-swaps, taken-reads}
+use Rattle.step.proofs.Steps.{taken-swaps, taken-reads}
 use Rattle.step.proofs.take.Statement.{statement}
 use Rattle.step.proofs.take.Tie as tie
 
@@ -10,7 +10,7 @@ swap-requires : tie.Need-swap-requires
 swap-requires c κs = search needs
 
 returns : tie.Need-returns
-returns c = c .swap .ensures ∙ taken-swaps _ _ _ _ (c .before .if1 .taken)
+returns c = c .swap .ensures _ ∙ taken-swaps _ _ _ _ (c .before .if1 .taken)
 
 look-requires : tie.Need-look-requires
 look-requires c κs = search needs

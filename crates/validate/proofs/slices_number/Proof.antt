@@ -1,6 +1,8 @@
 -- `validate::slices_number` meets its contract, test by test.
 -- Assumes nothing.
 use mathlib.Core.Bool.{or-true}
+use native.Mathlib.Omega.{arith}
+use lib.ListN.{length}
 use borrow.Author.Tests.{lt-ltb, le-ltb}
 use Rattle.semantics.specs.Refusals.{firstMet, sizeNotAllowed, tooMany, tooShort}
 use borrow.Author.Needs.{needs}
@@ -12,33 +14,44 @@ size-allowed-requires c κs = search needs
 
 returns : tie.Need-returns
 unfolding firstMet sizeNotAllowed tooMany tooShort
-returns c = rw (← c .before .before .size-allowed .ensures, c .before .if1 .taken, lt-ltb _ _ (c .if2 .taken))
+returns c =
+    let n = length (c .before .before .before .before .before .before .args .operations .now) in
+    rw (← c .before .before .size-allowed .ensures, c .before .if1 .taken, lt-ltb 64 n (omega (arith, c .if2 .taken)))
 
 returns-2 : tie.Need-returns-2
 unfolding firstMet sizeNotAllowed tooMany tooShort
-returns-2 c = rw (← c .before .before .before .size-allowed .ensures, c .before .before .if1 .taken, lt-ltb _ _ (c .if3 .taken), or-true)
+returns-2 c =
+    let entries = length (c .before .before .before .before .before .before .before .args .schedule .now) in
+    rw (
+      ← c .before .before .before .size-allowed .ensures,
+      c .before .before .if1 .taken,
+      lt-ltb 16384 entries (omega (arith, c .if3 .taken)),
+      or-true,
+    )
 
 returns-3 : tie.Need-returns-3
 unfolding firstMet sizeNotAllowed tooMany tooShort
 returns-3 c =
+    let args = c .before .before .before .before .before .before .before .before .args in
     let size = c .before .before .before in
     rw (
       ← size .before .size-allowed .ensures,
       size .if1 .taken,
-      le-ltb _ _ (c .before .before .if2 .left),
-      le-ltb _ _ (c .before .if3 .left),
+      le-ltb 64 (length (args .operations .now)) (omega (arith, c .before .before .if2 .left)),
+      le-ltb 16384 (length (args .schedule .now)) (omega (arith, c .before .if3 .left)),
       lt-ltb _ _ (c .if4 .taken),
     )
 
 returns-4 : tie.Need-returns-4
 unfolding firstMet sizeNotAllowed tooMany tooShort
 returns-4 c =
+    let args = c .before .before .before .before .before .before .before .before .before .args in
     let size = c .before .before .before .before in
     rw (
       ← size .before .size-allowed .ensures,
       size .if1 .taken,
-      le-ltb _ _ (c .before .before .before .if2 .left),
-      le-ltb _ _ (c .before .before .if3 .left),
+      le-ltb 64 (length (args .operations .now)) (omega (arith, c .before .before .before .if2 .left)),
+      le-ltb 16384 (length (args .schedule .now)) (omega (arith, c .before .before .if3 .left)),
       lt-ltb _ _ (c .if5 .taken),
       or-true,
     )
@@ -46,12 +59,13 @@ returns-4 c =
 returns-5 : tie.Need-returns-5
 unfolding firstMet sizeNotAllowed tooMany tooShort
 returns-5 c =
+    let args = c .before .before .before .before .before .before .before .before .before .args in
     let size = c .before .before .before .before in
     rw (
       ← size .before .size-allowed .ensures,
       size .if1 .taken,
-      le-ltb _ _ (c .before .before .before .if2 .left),
-      le-ltb _ _ (c .before .before .if3 .left),
+      le-ltb 64 (length (args .operations .now)) (omega (arith, c .before .before .before .if2 .left)),
+      le-ltb 16384 (length (args .schedule .now)) (omega (arith, c .before .before .if3 .left)),
       le-ltb _ _ (c .before .if4 .left),
       le-ltb _ _ (c .if5 .left),
     )

@@ -1,0 +1,57 @@
+-- `mark::part_of` meets its contract.
+-- Assumes nothing.
+use mathlib.Core.Path.{sym, ap}
+use Rattle.semantics.specs.RunFile.{partOf}
+use borrow.Author.Needs.{needs}
+use Rattle.mark.proofs.part_of.Statement.{statement}
+use Rattle.mark.proofs.part_of.Tie as tie
+
+enum-told : tie.Need-enum-told
+enum-told c = search needs
+
+enum-told-2 : tie.Need-enum-told-2
+enum-told-2 c = search needs
+
+enum-told-3 : tie.Need-enum-told-3
+enum-told-3 c = search needs
+
+enum-told-4 : tie.Need-enum-told-4
+enum-told-4 c = search needs
+
+enum-told-5 : tie.Need-enum-told-5
+enum-told-5 c = search needs
+
+returns : tie.Need-returns
+unfolding partOf
+returns c = sym (ap partOf (c .enum-told .given .1))
+
+returns-2 : tie.Need-returns-2
+unfolding partOf
+returns-2 c = sym (ap partOf (c .enum-told2 .given .1))
+
+returns-3 : tie.Need-returns-3
+unfolding partOf
+returns-3 c = sym (ap partOf (c .enum-told3 .given .1))
+
+returns-4 : tie.Need-returns-4
+unfolding partOf
+returns-4 c = sym (ap partOf (c .enum-told4 .given .1))
+
+returns-5 : tie.Need-returns-5
+unfolding partOf
+returns-5 c = sym (ap partOf (c .enum-told5 .given .1))
+
+pub part-of-spec : {M : Type 1} → statement M
+part-of-spec =
+    tie.close
+    (tie.spec
+    enum-told
+    enum-told-2
+    enum-told-3
+    enum-told-4
+    enum-told-5
+    returns
+    returns-2
+    returns-3
+    returns-4
+    returns-5)

@@ -1,0 +1,62 @@
+// The size of a table, the home of a key and the sum of two totals (document 01, "Cells, rows,
+// schedule"); room_home and room_sum are the two functions that the load module calls. Every function
+// takes every input.
+ghost use mathlib.Core.Path.{_≡_};
+ghost use Prim.Native.Nat.{_*_, _/_, _%_};
+ghost use Rattle.semantics.specs.Words.{isPowerFrom, sizeAllowed, roomHome, roomSum};
+use word::is_live;
+
+// Whether c is one of n powers of two, 2^low the lowest: one bit of c is set, and the zeros below
+// that bit are as many as the exponent of one of them.
+fn is_power_from(low: u32, n: u32, c: usize) -> bool
+    ensures { λ r. ⌜ r ≡ isPowerFrom low n c ⌝ }
+{
+    let exponent = usize::trailing_zeros(c);
+    if usize::count_ones(c) == 1 {
+        if low <= exponent {
+            return exponent - low < n;
+        }
+    }
+    false
+}
+
+// Whether a table may have c cells: a power of two from 2^3 to 2^12.
+pub fn size_allowed(c: usize) -> bool
+    ensures { λ r. ⌜ r ≡ sizeAllowed c ⌝ }
+{
+    is_power_from(3, 10, c)
+}
+
+// The home of a key in a table whose cells have each this share, 65,536 / c, of the 65,536 hashes: a
+// loop finds the share once. A share of 0 is no table's; by 0 a quotient is 0 in the definitions.
+pub fn home(key: u16, share: u32) -> u32
+    ensures { λ r. ⌜ r ≡ key * 40503 % 65536 / share ⌝ }
+{
+    if share == 0 {
+        return 0;
+    }
+    (key as u32) * 40503 % 65536 / share
+}
+
+// For the load module: the home of a key in c cells, or 65,535 where c or the key is not allowed.
+// Both are judged first, so the key has sixteen bits and no divisor is 0.
+#[no_mangle]
+pub extern "C" fn room_home(key: u32, c: u32) -> u32
+    ensures { λ r. ⌜ r ≡ roomHome key c ⌝ }
+{
+    if size_allowed(c as usize) {
+        if is_live(key) {
+            return home(key as u16, 65536 / c);
+        }
+    }
+    65535
+}
+
+// For the load module: the sum of two totals, or 65,535 (document 01's pinned) where it is larger.
+#[no_mangle]
+pub extern "C" fn room_sum(a: u16, b: u16) -> u32
+    ensures { λ r. ⌜ r ≡ roomSum a b ⌝ }
+{
+    let sum = (a as u32) + (b as u32);
+    if sum <= 65535 { sum } else { 65535 }
+}

@@ -1,0 +1,78 @@
+// What each kind of operation does where its key has a total (document 01, "What one step does"):
+// the read rule and the new word, chosen by one match over the kind.
+ghost use mathlib.Core.Path.{_≡_};
+ghost use mathlib.Core.Bool.{true};
+ghost use Prim.Native.Nat.{ℕ, _+_, _*_};
+ghost use Rattle.semantics.specs.Words.{totalBits};
+ghost use Rattle.rule.specs.Rule.{ruleOf};
+use room::room_sum;
+use word::answer_word;
+use word::cell_total;
+use word::cell_word;
+use word::operation_amount;
+use word::operation_key;
+use word::operation_kind;
+
+// What a kind of operation does: whether it makes a missing key; and where its key has a total,
+// whether it finishes at the read, the word that its swap stores, and what it answers.
+pub struct Rule {
+    pub known: bool,
+    pub makes: bool,
+    pub stays: bool,
+    pub word: u32,
+    pub answer: u32,
+}
+
+// Document 01's answer codes of answers with a total.
+const FOUND: u8 = 1;
+
+const PRESENT: u8 = 3;
+
+const CHANGED: u8 = 4;
+
+const REMOVED: u8 = 5;
+
+// The read rule and the new word of a kind, where the operation's key has the total of a word; any
+// other number than a kind's is refused. The rule is the same in a table of any size.
+pub fn rule_of(operation: u64, word: u32) -> Rule
+    ensures { λ r. ⌜ ((c : ℕ) → r ≡ ruleOf c operation (totalBits word)) ⌝ }
+{
+    let total = cell_total(word);
+    let key = operation_key(operation);
+    let amount = operation_amount(operation);
+    let kind = operation_kind(operation);
+    match kind {
+        1 => known(false, true, FOUND, total, key, total),
+        2 => known(true, true, PRESENT, total, key, total),
+        3 => known(false, false, CHANGED, total, key, amount),
+        4 => known(
+            true,
+            false,
+            CHANGED,
+            total,
+            key,
+            room_sum(total, amount) as u16,
+        ),
+        5 => known(false, false, REMOVED, total, 65535, 0),
+        _ => Rule {
+            known: false,
+            makes: false,
+            stays: false,
+            word: 0,
+            answer: 0,
+        },
+    }
+}
+
+// The rule of a kind that answers a code with the old total, and stores a key with a new one.
+fn known(makes: bool, stays: bool, code: u8, old: u16, key: u16, new: u16) -> Rule
+    ensures { λ r. ⌜ r ≡ record { known = true; makes = makes; stays = stays; word = key * 65536 + new; answer = code * 65536 + old } ⌝ }
+{
+    Rule {
+        known: true,
+        makes: makes,
+        stays: stays,
+        word: cell_word(key, new),
+        answer: answer_word(code, old),
+    }
+}

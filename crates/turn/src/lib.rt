@@ -1,0 +1,133 @@
+// What an operation does at the one word that its step reads (document 01, "What one step does"): a
+// read, or the compare-and-swap of one that holds a word. Each gives the word that it leaves and how
+// the operation's record turns. Both take every input: a number that is no kind takes no step.
+ghost use mathlib.Core.Path.{_≡_};
+ghost use mathlib.Core.Bool.{true, _&&_};
+ghost use Prim.Native.Nat.{ℕ};
+ghost use lib.Dec.{eqb};
+ghost use Rattle.semantics.specs.Words.{keyOf, totalBits, kindBits, isLiveKey, isKind, decodeOperation};
+ghost use Rattle.rule.specs.Rule.{ruleIf};
+ghost use Rattle.turn.specs.Turn.{readTurn, swapWon, readIf, swapIf};
+use rule::Rule;
+use rule::rule_of;
+use word::cell_key;
+use word::cell_word;
+use word::is_live_key;
+use word::operation_amount;
+use word::operation_key;
+
+// How a record turns: it passes on, holds a word, loses its swap or finishes with an answer; or it
+// takes no step.
+pub enum Turn {
+    Pass,
+    Hold(u32),
+    Lose,
+    Finish(u32),
+    Refuse,
+}
+
+// The word that a step leaves in its cell, and how the record turns.
+pub struct Taken {
+    pub word: u32,
+    pub turn: Turn,
+}
+
+// Document 01's answers that carry no total.
+const INSERTED: u32 = 2 * 65536;
+
+const ABSENT: u32 = 6 * 65536;
+
+const FULL: u32 = 7 * 65536;
+
+// Whether a word is a cell of a live key.
+fn is_own(key: u16, word: u32) -> bool
+    ensures { λ r. ⌜ r ≡ (isLiveKey key && eqb key (keyOf word)) ⌝ }
+{
+    if cell_key(word) == key {
+        return is_live_key(key);
+    }
+    false
+}
+
+// A read of a word, with some of c cells passed before it.
+fn read(operation: u64, c: usize, passed: usize, word: u32, rule: Rule) -> Turn
+    requires { ⌜ rule ≡ ruleIf true c (decodeOperation operation) (totalBits word) ⌝ }
+    ensures { λ r. ⌜ r ≡ readTurn c operation passed word ⌝ }
+{
+    if word == 0 {
+        if rule.makes {
+            return Turn::Hold(0);
+        }
+        return Turn::Finish(ABSENT);
+    }
+    if is_own(operation_key(operation), word) {
+        if rule.stays {
+            return Turn::Finish(rule.answer);
+        }
+        return Turn::Hold(word);
+    }
+    if passed < c {
+        if c - passed == 1 {
+            if rule.makes {
+                return Turn::Finish(FULL);
+            }
+            return Turn::Finish(ABSENT);
+        }
+    }
+    Turn::Pass
+}
+
+// A read: the word stays as it is.
+pub fn look(operation: u64, c: usize, passed: usize, word: u32) -> Taken
+    ensures { λ r. ⌜ r ≡ readIf c operation (isKind (kindBits operation)) passed word ⌝ }
+{
+    let rule = rule_of(operation, word);
+    if rule.known {
+        return Taken {
+            word: word,
+            turn: read(operation, c, passed, word, rule),
+        };
+    }
+    Taken {
+        word: word,
+        turn: Turn::Refuse,
+    }
+}
+
+// A swap that is won: on an empty cell the key and the amount are stored.
+fn won(operation: u64, held: u32, rule: Rule) -> Taken
+    requires { ⌜ ((c : ℕ) → rule ≡ ruleIf true c (decodeOperation operation) (totalBits held)) ⌝ }
+    ensures { λ r. ⌜ ((c : ℕ) → r ≡ swapWon c operation held) ⌝ }
+{
+    if held == 0 {
+        return Taken {
+            word: cell_word(operation_key(operation), operation_amount(operation)),
+            turn: Turn::Finish(INSERTED),
+        };
+    }
+    Taken {
+        word: rule.word,
+        turn: Turn::Finish(rule.answer),
+    }
+}
+
+// A compare-and-swap: the cell is stored if it still equals the held word. It is the same in a table
+// of any size.
+pub fn swap(operation: u64, held: u32, word: u32) -> Taken
+    ensures { λ r. ⌜ ((c : ℕ) → r ≡ swapIf c operation (isKind (kindBits operation)) held word) ⌝ }
+{
+    let rule = rule_of(operation, held);
+    if rule.known {
+        if word == held {
+            return won(operation, held, rule);
+        }
+        return Taken {
+            word: word,
+            turn: Turn::Lose,
+        };
+    }
+    Taken {
+        word: word,
+        turn: Turn::Refuse,
+    }
+}

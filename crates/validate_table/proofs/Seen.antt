@@ -1,0 +1,99 @@
+-- The keys seen so far: a set of 65,536 places in 1,024 words, and what it holds before each turn of the search for a repeated key.
+-- Assumes nothing.
+use mathlib.Core.Path.{_≡_, refl, sym, ap, _∙_}
+use Prim.Native.Nat.{ℕ, zero, suc, _+_, _/_, _%_, _<_}
+use mathlib.Core.Bool.{Bool, true, false, _||_, or-comm, or-false, true≢false}
+use mathlib.Core.List.{List}
+use native.Mathlib.Numerals.{add-one}
+use native.Mathlib.Decide.{ℕ-discrete}
+use native.Mathlib.Omega.{arith}
+use lib.Dec.{eqb}
+use lib.ListN.{length, getD, set, replicate, length-replicate, length-set}
+use lib.Seq.{getD-set-same, getD-set-other}
+use borrow.Author.Tests.{eq-eqb, ne-eqb}
+use Rattle.semantics.specs.Basics.{firstBelow, someBelow}
+use Rattle.semantics.specs.Sets.{isIn, including}
+use Rattle.semantics.specs.Words.{isLiveKey, keyOf}
+use Rattle.semantics.specs.Refusals.{isRepeated}
+use Rattle.semantics.proofs.Tests.{true-T}
+use Rattle.semantics.proofs.Words.{live-bounds}
+use Rattle.semantics.proofs.Start.{none-some-below, some-more, Searching, search-starts, search-goes-on, search-finds}
+use Rattle.sets.proofs.Sets.{in-none, in-including}
+
+-- whether key k is in the set, and the set with it
+abbrev pub hasKey : List ℕ → ℕ → Bool
+hasKey keys k = isIn (getD keys (k / 64) 0) (k % 64)
+
+abbrev pub withKey : List ℕ → ℕ → List ℕ
+withKey keys k = set keys (k / 64) (including (getD keys (k / 64) 0) (k % 64))
+
+has-with : (keys : List ℕ) (k j : ℕ) → k / 64 < length keys → hasKey (withKey keys k) j ≡ (eqb k j || hasKey keys j)
+has-with keys k j b = elim (ℕ-discrete (j / 64) (k / 64)) [ yes q ↦ same q | no q ↦ other q ]
+  where
+    w : ℕ
+    w = including (getD keys (k / 64) 0) (k % 64)
+
+    alike : j / 64 ≡ k / 64 → eqb (k % 64) (j % 64) ≡ eqb k j
+    alike q = elim (ℕ-discrete k j) [
+      | yes r ↦ eq-eqb (k % 64) (j % 64) (omega arith) ∙ sym (eq-eqb k j r)
+      | no r ↦ ne-eqb (k % 64) (j % 64) (λ e. r (omega arith)) ∙ sym (ne-eqb k j r)
+    ]
+
+    same : j / 64 ≡ k / 64 → hasKey (withKey keys k) j ≡ (eqb k j || hasKey keys j)
+    same q = rw (q, getD-set-same keys (k / 64) w 0 b, in-including (getD keys (k / 64) 0) (k % 64) (omega arith) (j % 64), alike q)
+
+    other : (j / 64 ≡ k / 64 → ⊥) → hasKey (withKey keys k) j ≡ (eqb k j || hasKey keys j)
+    other q = rw (getD-set-other keys (k / 64) (j / 64) w 0 q, ne-eqb k j (λ e. q (omega arith)))
+
+zeros : (n i : ℕ) → getD {A = ℕ} (replicate n 0) i 0 ≡ 0
+zeros zero i = refl
+zeros (suc n) zero = refl
+zeros (suc n) (suc i) = zeros n i
+
+-- the search has come to cell i, and the live keys in the set are those of the cells before it
+pub record Seen (cells : List ℕ) (i : ℕ) (keys : List ℕ) : Type 0 where
+  pub search : Searching (length cells) (isRepeated cells) i
+  pub long : length keys ≡ 1024
+  pub holds : (k : ℕ) → isLiveKey k ≡ true → hasKey keys k ≡ someBelow i (λ j. eqb (keyOf (getD cells j 0)) k)
+
+pub seen-none : (cells : List ℕ) → Seen cells 0 (replicate 1024 0)
+seen-none cells =
+    record {
+      search = search-starts;
+      long = length-replicate {A = ℕ} 1024 0;
+      holds = λ k l. ap (λ (w : ℕ). isIn w (k % 64)) (zeros 1024 (k / 64)) ∙ in-none (k % 64) ∙ sym (none-some-below 0 _ (λ j b. absurd (omega arith)));
+    }
+
+-- a turn, at a cell i of key k
+module _ {cells keys : List ℕ} {i k : ℕ} (s : Seen cells i keys) (is : k ≡ keyOf (getD cells i 0)) where
+  says : isLiveKey k ≡ true → isRepeated cells i ≡ hasKey keys k
+  unfolding isRepeated
+  says l = rw (← is, l) (sym (s .holds k l))
+
+  more : (j : ℕ) → someBelow (i + 1) (λ n. eqb (keyOf (getD cells n 0)) j) ≡ (someBelow i (λ n. eqb (keyOf (getD cells n 0)) j) || eqb k j)
+  more j = rw (add-one i, is, some-more i (λ n. eqb (keyOf (getD cells n 0)) j))
+
+  pub seen-found : isLiveKey k ≡ true → hasKey keys k ≡ true → i ≡ firstBelow (length cells) (isRepeated cells)
+  seen-found l h = search-finds (s .search) (says l ∙ h)
+
+  pub seen-passed : i < length cells → isLiveKey k ≡ false → (next : List ℕ) → next ≡ keys → Seen cells (i + 1) next
+  unfolding isRepeated
+  seen-passed b d next e =
+      record {
+        search = search-goes-on (s .search) b (rw (← is, d));
+        long = ap length e ∙ s .long;
+        holds = λ j l.
+            let other : eqb k j ≡ false = ne-eqb k j (λ q. true≢false (sym l ∙ sym (ap isLiveKey q) ∙ d)) in
+            rw e (s .holds j l ∙ sym (more j ∙ rw (other, or-false)));
+      }
+
+  pub seen-more : i < length cells → isLiveKey k ≡ true → hasKey keys k ≡ false → (next : List ℕ) → next ≡ withKey keys k → Seen cells (i + 1) next
+  seen-more b l h next e =
+      record {
+        search = search-goes-on (s .search) b (says l ∙ h);
+        long = ap length e ∙ length-set keys _ _ ∙ s .long;
+        holds = λ j m.
+            rw e (has-with keys k j (omega (arith, live-bounds k (true-T _ l), s .long))
+            ∙ or-comm (eqb k j) (hasKey keys j)
+            ∙ rw (s .holds j m) (sym (more j)));
+      }

@@ -1,0 +1,34 @@
+-- `validate_words::cell_allowed` meets its contract.
+-- Assumes nothing.
+use mathlib.Core.Path.{_≡_, sym, ap, _∙_}
+use mathlib.Core.Bool.{or-true}
+use borrow.Author.Tests.{eq-eqb, ne-eqb}
+use Rattle.semantics.specs.Words.{cellAllowed, tombstoneWord, isLiveKey, keyOf}
+use borrow.Author.Needs.{needs}
+use Rattle.validate_words.proofs.cell_allowed.Statement.{statement}
+use Rattle.validate_words.proofs.cell_allowed.Tie as tie
+
+live : (c : tie.After-is-live-key) → isLiveKey (keyOf (c .before .before .args .w)) ≡ c .is-live-key .result
+live c = ap isLiveKey (sym (c .before .cell-key .ensures)) ∙ sym (c .is-live-key .ensures)
+
+cell-key-requires : tie.Need-cell-key-requires
+cell-key-requires c κs = search needs
+
+is-live-key-requires : tie.Need-is-live-key-requires
+is-live-key-requires c κs = search needs
+
+returns : tie.Need-returns
+unfolding cellAllowed
+returns c = rw (live (c .before), c .if1 .taken)
+
+returns-2 : tie.Need-returns-2
+unfolding cellAllowed
+returns-2 c = rw (eq-eqb (c .before .before .before .before .args .w) 0 (c .if2 .taken), or-true)
+
+returns-3 : tie.Need-returns-3
+unfolding cellAllowed tombstoneWord
+returns-3 c = rw (live (c .before .before), c .before .if1 .left, ne-eqb (c .before .before .before .before .args .w) 0 (c .if2 .left))
+
+pub cell-allowed-spec : {M : Type 1} → statement M
+cell-allowed-spec =
+    tie.close (tie.spec cell-key-requires is-live-key-requires returns returns-2 returns-3)
