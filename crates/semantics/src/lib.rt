@@ -10,6 +10,7 @@ pub struct Refusal {
 
 // What a run returns beside the slices that it writes: whether it was turned away, how many
 // operations finished, how many swaps were lost and how many entries were idle.
+#[repr(C)]
 pub struct Outcome {
     pub number: u32,
     pub place: usize,
@@ -41,6 +42,7 @@ pub struct Position {
 
 // What the reader of a run file returns beside the slices that it fills: whether the file was turned
 // away, and how many cells, operations and entries were written.
+#[repr(C)]
 pub struct Loaded {
     pub number: u32,
     pub place: usize,
@@ -50,6 +52,7 @@ pub struct Loaded {
 }
 
 // What a call that writes bytes returns: whether it was turned away, and how many it wrote.
+#[repr(C)]
 pub struct Written {
     pub number: u32,
     pub place: usize,
