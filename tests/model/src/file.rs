@@ -1,0 +1,209 @@
+//! The reader of run files. It checks the whole file first and writes
+//! afterwards, so that a refusal alters nothing.
+
+use crate::refuse::{MOST_ENTRIES, MOST_OPERATIONS};
+use crate::word::{pack, EMPTY};
+
+const MOST_CELLS: usize = 4_096;
+const MOST_BYTES: usize = 65_535;
+
+/// The lengths of the records, mark included; a record of entries has as many
+/// bytes more as its count says.
+const TABLE_BYTES: usize = 3;
+const CELL_BYTES: usize = 8;
+const OPERATION_BYTES: usize = 7;
+const ENTRIES_BYTES: usize = 3;
+
+/// What the reader returns: the number and place of a refusal, or 0 and 0 and
+/// how many elements of each slice it wrote.
+#[derive(Debug, Clone, Copy, PartialEq, Eq)]
+pub struct Loaded {
+    pub number: u32,
+    pub place: usize,
+    pub cells: usize,
+    /// Operations ("rows").
+    pub operations: usize,
+    pub entries: usize,
+}
+
+/// The sort of a record, in the order the file has them.
+#[derive(Clone, Copy, PartialEq, PartialOrd)]
+enum Sort {
+    Table,
+    Cell,
+    Operation,
+    Entries,
+}
+
+/// What the records read so far have said.
+struct Shape {
+    /// The sort of the record before; nothing at the start of the file.
+    before: Option<Sort>,
+    c: usize,
+    named: usize,
+    /// The lowest number the next named cell may have.
+    lowest: usize,
+    operations: usize,
+    entries: usize,
+}
+
+/// Reads a run file into the lent slices, or refuses and alters nothing.
+pub fn load(file: &[u8], cells: &mut [u32], operations: &mut [u64], schedule: &mut [u8]) -> Loaded {
+    let short = cells.len() < MOST_CELLS
+        || operations.len() < MOST_OPERATIONS
+        || schedule.len() < MOST_ENTRIES;
+    if short {
+        return refused(3, 0);
+    }
+    if file.len() > MOST_BYTES {
+        return refused(12, 0);
+    }
+    match check(file) {
+        Ok(shape) => {
+            fill(file, &shape, cells, operations, schedule);
+            Loaded {
+                number: 0,
+                place: 0,
+                cells: shape.c,
+                operations: shape.operations,
+                entries: shape.entries,
+            }
+        }
+        Err((number, place)) => refused(number, place),
+    }
+}
+
+fn refused(number: u32, place: usize) -> Loaded {
+    Loaded {
+        number,
+        place,
+        cells: 0,
+        operations: 0,
+        entries: 0,
+    }
+}
+
+/// Takes the records in file order up to the end, or to the first faulty one.
+fn check(file: &[u8]) -> Result<Shape, (u32, usize)> {
+    let mut shape = Shape {
+        before: None,
+        c: 0,
+        named: 0,
+        lowest: 0,
+        operations: 0,
+        entries: 0,
+    };
+    let mut at = 0;
+    // The first record is looked for even in an empty file.
+    loop {
+        at += shape.record(&file[at..]).map_err(|number| (number, at))?;
+        if at == file.len() {
+            return Ok(shape);
+        }
+    }
+}
+
+impl Shape {
+    /// Checks the record that `rest` opens with and gives its length, or the
+    /// number of the refusal.
+    fn record(&mut self, rest: &[u8]) -> Result<usize, u32> {
+        let sort = match rest.get(..2).ok_or(10_u32)? {
+            b"TB" => Sort::Table,
+            b"CL" => Sort::Cell,
+            b"OP" => Sort::Operation,
+            b"SC" => Sort::Entries,
+            _ => return Err(9),
+        };
+        if !self.in_order(sort) {
+            return Err(9);
+        }
+        let length = match sort {
+            Sort::Table => TABLE_BYTES,
+            Sort::Cell => CELL_BYTES,
+            Sort::Operation => OPERATION_BYTES,
+            Sort::Entries => ENTRIES_BYTES + usize::from(*rest.get(2).ok_or(10_u32)?),
+        };
+        self.body(sort, rest.get(2..length).ok_or(10_u32)?)?;
+        self.before = Some(sort);
+        Ok(length)
+    }
+
+    /// One table record comes first; the others may repeat but not go back.
+    fn in_order(&self, sort: Sort) -> bool {
+        match self.before {
+            None => sort == Sort::Table,
+            Some(before) => sort != Sort::Table && before <= sort,
+        }
+    }
+
+    fn body(&mut self, sort: Sort, body: &[u8]) -> Result<(), u32> {
+        match sort {
+            Sort::Table => match body[0] {
+                k @ 3..=12 => self.c = 1 << k,
+                _ => return Err(11),
+            },
+            Sort::Cell => {
+                let number = usize::from(pair(body, 0));
+                if number < self.lowest || number >= self.c || pair(body, 2) == 0 {
+                    return Err(11);
+                }
+                self.lowest = number + 1;
+                self.named += 1;
+            }
+            Sort::Operation => {
+                if self.operations == MOST_OPERATIONS {
+                    return Err(2);
+                }
+                self.operations += 1;
+            }
+            Sort::Entries => {
+                let count = body.len() - 1;
+                if count == 0 {
+                    return Err(11);
+                }
+                if self.entries + count > MOST_ENTRIES {
+                    return Err(2);
+                }
+                self.entries += count;
+            }
+        }
+        Ok(())
+    }
+}
+
+/// A number of two bytes, high byte first.
+fn pair(bytes: &[u8], at: usize) -> u16 {
+    u16::from_be_bytes([bytes[at], bytes[at + 1]])
+}
+
+/// Writes what a file that passed the check says.
+fn fill(
+    file: &[u8],
+    shape: &Shape,
+    cells: &mut [u32],
+    operations: &mut [u64],
+    schedule: &mut [u8],
+) {
+    let rest = &file[TABLE_BYTES..];
+    let (named, rest) = rest.split_at(shape.named * CELL_BYTES);
+    let (rows, mut rest) = rest.split_at(shape.operations * OPERATION_BYTES);
+    cells[..shape.c].fill(EMPTY);
+    for record in named.chunks_exact(CELL_BYTES) {
+        cells[usize::from(pair(record, 2))] = pack(pair(record, 4), pair(record, 6));
+    }
+    for (operation, record) in operations
+        .iter_mut()
+        .zip(rows.chunks_exact(OPERATION_BYTES))
+    {
+        let key_and_amount = u64::from(pack(pair(record, 3), pair(record, 5)));
+        *operation = u64::from(record[2]) << 32 | key_and_amount;
+    }
+    let mut written = 0;
+    while !rest.is_empty() {
+        let count = usize::from(rest[2]);
+        let (record, after) = rest.split_at(ENTRIES_BYTES + count);
+        schedule[written..written + count].copy_from_slice(&record[ENTRIES_BYTES..]);
+        written += count;
+        rest = after;
+    }
+}

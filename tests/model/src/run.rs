@@ -1,0 +1,122 @@
+//! A whole run: the refusals, then the schedule, one step for each entry.
+
+use crate::refuse::{refusal, MOST_OPERATIONS};
+use crate::step::{answer, Operation, Progress, Turn};
+use crate::word::Homes;
+
+/// What a run returns. A refused run has its number and place and counts of 0;
+/// an accepted one has number 0 and place 0.
+#[derive(Debug, Clone, Copy, PartialEq, Eq)]
+pub struct Outcome {
+    pub number: u32,
+    pub place: usize,
+    /// Operations finished.
+    pub done: usize,
+    /// Swaps that found another word than the one they expected.
+    pub lost: usize,
+    /// Entries that named a finished operation.
+    pub idle: usize,
+}
+
+impl Outcome {
+    pub(crate) fn refused(number: u32, place: usize) -> Outcome {
+        Outcome {
+            number,
+            place,
+            done: 0,
+            lost: 0,
+            idle: 0,
+        }
+    }
+}
+
+/// A run under way, apart from what is lent to it.
+pub(crate) struct State {
+    progress: [Option<Progress>; MOST_OPERATIONS],
+    /// The set of finished operations, one bit each.
+    finished: u64,
+    lost: usize,
+    idle: usize,
+}
+
+impl State {
+    /// The state before the first entry of an accepted call; every answer says
+    /// unfinished.
+    pub(crate) fn start(c: usize, operations: &[u64], answers: &mut [u32]) -> State {
+        let homes = Homes::of(c);
+        let mut progress = [None; MOST_OPERATIONS];
+        for (slot, &word) in progress.iter_mut().zip(operations) {
+            *slot = Operation::decode(word).map(|operation| Progress::start(operation, homes));
+        }
+        answers[..operations.len()].fill(answer::UNFINISHED);
+        State {
+            progress,
+            finished: 0,
+            lost: 0,
+            idle: 0,
+        }
+    }
+
+    /// Takes one schedule entry. The linearization order ("log") gains an
+    /// operation at the step that finishes it.
+    pub(crate) fn entry(
+        &mut self,
+        entry: u8,
+        cells: &mut [u32],
+        answers: &mut [u32],
+        log: &mut [u8],
+    ) {
+        let row = usize::from(entry);
+        let bit = 1 << row;
+        if self.finished & bit != 0 {
+            self.idle += 1;
+            return;
+        }
+        let progress = self.progress[row]
+            .as_mut()
+            .expect("refusals 5 and 6 leave only entries that name an operation");
+        match progress.step(cells) {
+            Turn::Passed | Turn::Held => {}
+            Turn::Lost => self.lost += 1,
+            Turn::Finished(answer) => {
+                answers[row] = answer;
+                log[self.done()] = entry;
+                self.finished |= bit;
+            }
+        }
+    }
+
+    fn done(&self) -> usize {
+        self.finished.count_ones() as usize
+    }
+
+    pub(crate) fn outcome(&self) -> Outcome {
+        Outcome {
+            number: 0,
+            place: 0,
+            done: self.done(),
+            lost: self.lost,
+            idle: self.idle,
+        }
+    }
+}
+
+/// Runs the schedule on the cells, or refuses and alters nothing. One answer
+/// for each operation ("row") and one log byte for each finished operation are
+/// written; what is lent beyond them keeps its contents.
+pub fn run(
+    cells: &mut [u32],
+    operations: &[u64],
+    schedule: &[u8],
+    answers: &mut [u32],
+    log: &mut [u8],
+) -> Outcome {
+    if let Some((number, place)) = refusal(cells, operations, schedule, answers.len(), log.len()) {
+        return Outcome::refused(number, place);
+    }
+    let mut state = State::start(cells.len(), operations, answers);
+    for &entry in schedule {
+        state.entry(entry, cells, answers, log);
+    }
+    state.outcome()
+}

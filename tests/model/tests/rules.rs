@@ -1,0 +1,384 @@
+//! The rules that the worked cases leave out, with results worked by hand.
+
+mod support {
+    pub mod answers;
+    pub mod calls;
+    pub mod leaves;
+    pub mod words;
+}
+
+use model::{home, list, sum, Outcome};
+use support::answers::answer;
+use support::calls::Call;
+use support::leaves::assert_leaves;
+use support::words::{operation, table, GONE};
+
+#[test]
+fn homes_by_quotient_and_remainder() {
+    for k in 3..=12 {
+        let c = 1_u32 << k;
+        for key in 1..=65_534_u64 {
+            let expected = (key * 40_503 % 65_536) / (65_536 / u64::from(c));
+            assert_eq!(u64::from(home(key as u32, c)), expected, "{key} in {c}");
+        }
+    }
+}
+
+#[test]
+fn no_home_where_the_key_or_the_cells_are_not_allowed() {
+    for key in [0, 65_535, 65_536, 65_537, u32::MAX] {
+        assert_eq!(home(key, 8), 65_535, "key {key}");
+    }
+    for c in [0, 1, 4, 7, 9, 12, 4_095, 4_097, 8_192, 65_536, 1 << 31] {
+        assert_eq!(home(1, c), 65_535, "{c} cells");
+    }
+}
+
+#[test]
+fn sums_are_whole_or_pinned() {
+    let worked = [
+        (0, 0, 0),
+        (30_000, 30_000, 60_000),
+        (1, 65_533, 65_534),
+        (40_000, 40_000, 65_535),
+        (0, 65_535, 65_535),
+        (65_535, 65_535, 65_535),
+    ];
+    for (a, b, expected) in worked {
+        assert_eq!(sum(a, b), expected, "{a} + {b}");
+    }
+}
+
+/// One operation alone on a table of 8 cells: its kind (on key 1, which has
+/// home 4, with amount 7 where it takes one), the steps it needs, its answer
+/// and the word it puts in the cell it stops at.
+type Alone = (&'static str, usize, (&'static str, u32), Option<u32>);
+
+/// Checks that the operation is unfinished and has changed nothing one step
+/// before, and is as stated after its last step.
+fn assert_alone(cells: &[u32], stop: usize, (kind, steps, (name, total), word): Alone) {
+    let amount = if matches!(kind, "find" | "remove") {
+        0
+    } else {
+        7
+    };
+    let operations = [operation(kind, 1, amount)];
+    assert_leaves(
+        Call::new(cells.to_vec(), &operations, &vec![0; steps - 1]),
+        [0, 0, 0],
+        &[answer("unfinished", 0)],
+        &[],
+        cells,
+    );
+    let mut after = cells.to_vec();
+    after[stop] = word.unwrap_or(after[stop]);
+    assert_leaves(
+        // Two entries more than needed are idle.
+        Call::new(cells.to_vec(), &operations, &vec![0; steps + 2]),
+        [1, 0, 2],
+        &[answer(name, total)],
+        &[0],
+        &after,
+    );
+}
+
+const ONE_SEVEN: Option<u32> = Some(65_543);
+
+#[test]
+fn own_key_at_home() {
+    let cells = table(8, &[(4, 1, 40)]);
+    let cases: [Alone; 5] = [
+        ("find", 1, ("found", 40), None),
+        ("insert", 1, ("present", 40), None),
+        ("update", 2, ("changed", 40), ONE_SEVEN),
+        ("add", 2, ("changed", 40), Some(65_536 + 47)),
+        ("remove", 2, ("removed", 40), Some(GONE)),
+    ];
+    for case in cases {
+        assert_alone(&cells, 4, case);
+    }
+}
+
+#[test]
+fn empty_home() {
+    let cases: [Alone; 5] = [
+        ("find", 1, ("absent", 0), None),
+        ("insert", 2, ("inserted", 0), ONE_SEVEN),
+        ("update", 1, ("absent", 0), None),
+        ("add", 2, ("inserted", 0), ONE_SEVEN),
+        ("remove", 1, ("absent", 0), None),
+    ];
+    for case in cases {
+        // A cell past the empty one is not looked at.
+        assert_alone(&table(8, &[(0, 5, 3)]), 4, case);
+    }
+}
+
+#[test]
+fn own_key_behind_another_and_a_tombstone() {
+    let cells = table(8, &[(4, 9, 25), (5, 65_535, 0), (6, 1, 65_535)]);
+    let cases: [Alone; 5] = [
+        ("find", 3, ("found", 65_535), None),
+        ("insert", 3, ("present", 65_535), None),
+        ("update", 4, ("changed", 65_535), ONE_SEVEN),
+        ("add", 4, ("changed", 65_535), Some(131_071)),
+        ("remove", 4, ("removed", 65_535), Some(GONE)),
+    ];
+    for case in cases {
+        assert_alone(&cells, 6, case);
+    }
+}
+
+#[test]
+fn empty_cell_behind_a_tombstone_round_the_end() {
+    // Tombstones in cells 4 to 7; the search goes on at cell 0.
+    let gone: Vec<_> = (4..8).map(|number| (number, 65_535, 0)).collect();
+    let cases: [Alone; 5] = [
+        ("find", 5, ("absent", 0), None),
+        ("insert", 6, ("inserted", 0), ONE_SEVEN),
+        ("update", 5, ("absent", 0), None),
+        ("add", 6, ("inserted", 0), ONE_SEVEN),
+        ("remove", 5, ("absent", 0), None),
+    ];
+    for case in cases {
+        assert_alone(&table(8, &gone), 0, case);
+    }
+}
+
+#[test]
+fn no_empty_cell_and_no_own_key() {
+    let mut others: Vec<_> = (0..8).map(|number| (number, 65_535, 0)).collect();
+    others[6] = (6, 9, 25);
+    let cases: [Alone; 5] = [
+        ("find", 8, ("absent", 0), None),
+        ("insert", 8, ("full", 0), None),
+        ("update", 8, ("absent", 0), None),
+        ("add", 8, ("full", 0), None),
+        ("remove", 8, ("absent", 0), None),
+    ];
+    for case in cases {
+        assert_alone(&table(8, &others), 0, case);
+    }
+}
+
+#[test]
+fn own_key_in_the_last_cell_reached() {
+    let mut cells: Vec<_> = (0..8).map(|number| (number, 65_535, 0)).collect();
+    cells[3] = (3, 1, 40);
+    let cases: [Alone; 2] = [
+        ("find", 8, ("found", 40), None),
+        ("add", 9, ("changed", 40), Some(65_536 + 47)),
+    ];
+    for case in cases {
+        assert_alone(&table(8, &cells), 3, case);
+    }
+}
+
+#[test]
+fn of_two_inserts_the_loser_finds_the_key_present() {
+    let operations = [operation("insert", 1, 7), operation("insert", 1, 8)];
+    assert_leaves(
+        Call::new(table(8, &[]), &operations, &[1, 0, 0, 1, 1]),
+        [2, 1, 0],
+        &[answer("inserted", 0), answer("present", 7)],
+        &[0, 1],
+        &table(8, &[(4, 1, 7)]),
+    );
+}
+
+#[test]
+fn a_cell_lost_to_another_key_is_read_again_and_passed() {
+    let operations = [operation("insert", 1, 7), operation("insert", 9, 8)];
+    let before_the_last = [0, 1, 0, 1, 1, 1];
+    assert_leaves(
+        Call::new(table(8, &[]), &operations, &before_the_last),
+        [1, 1, 0],
+        &[answer("inserted", 0), answer("unfinished", 0)],
+        &[0],
+        &table(8, &[(4, 1, 7)]),
+    );
+    assert_leaves(
+        Call::new(table(8, &[]), &operations, &[0, 1, 0, 1, 1, 1, 1]),
+        [2, 1, 0],
+        &[answer("inserted", 0), answer("inserted", 0)],
+        &[0, 1],
+        &table(8, &[(4, 1, 7), (5, 9, 8)]),
+    );
+}
+
+#[test]
+fn an_update_that_lost_to_a_remove_is_absent() {
+    let operations = [operation("remove", 1, 0), operation("update", 1, 7)];
+    assert_leaves(
+        Call::new(table(8, &[(4, 1, 40)]), &operations, &[0, 1, 0, 1, 1, 1]),
+        [2, 1, 0],
+        &[answer("removed", 40), answer("absent", 0)],
+        &[0, 1],
+        &table(8, &[(4, 65_535, 0)]),
+    );
+}
+
+#[test]
+fn a_remove_that_lost_takes_the_new_total() {
+    let operations = [operation("remove", 1, 0), operation("update", 1, 7)];
+    assert_leaves(
+        Call::new(table(8, &[(4, 1, 40)]), &operations, &[0, 1, 1, 0, 0, 0]),
+        [2, 1, 0],
+        &[answer("removed", 7), answer("changed", 40)],
+        &[1, 0],
+        &table(8, &[(4, 65_535, 0)]),
+    );
+}
+
+#[test]
+fn a_swap_may_be_lost_again_and_again() {
+    let operations = [
+        operation("add", 1, 1),
+        operation("add", 1, 2),
+        operation("add", 1, 3),
+    ];
+    assert_leaves(
+        Call::new(
+            table(8, &[]),
+            &operations,
+            &[0, 1, 1, 0, 0, 2, 2, 0, 0, 0, 0],
+        ),
+        [3, 2, 1],
+        &[
+            answer("changed", 5),
+            answer("inserted", 0),
+            answer("changed", 2),
+        ],
+        &[1, 2, 0],
+        &table(8, &[(4, 1, 6)]),
+    );
+}
+
+#[test]
+fn a_cell_that_holds_the_seen_word_again_is_swapped() {
+    let operations = [
+        operation("add", 1, 5),
+        operation("update", 1, 9),
+        operation("update", 1, 40),
+    ];
+    assert_leaves(
+        Call::new(table(8, &[(4, 1, 40)]), &operations, &[0, 1, 1, 2, 2, 0]),
+        [3, 0, 0],
+        &[
+            answer("changed", 40),
+            answer("changed", 40),
+            answer("changed", 9),
+        ],
+        &[1, 2, 0],
+        &table(8, &[(4, 1, 45)]),
+    );
+}
+
+#[test]
+fn a_removed_key_comes_back_in_another_cell() {
+    let operations = [
+        operation("remove", 1, 0),
+        operation("add", 1, 0),
+        operation("find", 1, 0),
+    ];
+    assert_leaves(
+        Call::new(table(8, &[(4, 1, 40)]), &operations, &[0, 0, 1, 1, 1, 2, 2]),
+        [3, 0, 0],
+        &[
+            answer("removed", 40),
+            answer("inserted", 0),
+            answer("found", 0),
+        ],
+        &[0, 1, 2],
+        &table(8, &[(4, 65_535, 0), (5, 1, 0)]),
+    );
+}
+
+#[test]
+fn cells_passed_before_a_lost_swap_stay_passed() {
+    // Cell 5 alone is empty. The add of 9 passes cell 4, loses cell 5 to the
+    // add of 6, reads it again and has passed all 8 cells after cell 3.
+    let mut cells = vec![GONE; 8];
+    cells[5] = 0;
+    let mut after = cells.clone();
+    after[5] = 6 * 65_536 + 1;
+    let operations = [operation("add", 9, 3), operation("add", 6, 1)];
+    let schedule = [0, 0, 1, 1, 0, 0, 0, 0, 0, 0, 0, 0];
+    assert_leaves(
+        Call::new(cells.clone(), &operations, &schedule[..11]),
+        [1, 1, 0],
+        &[answer("unfinished", 0), answer("inserted", 0)],
+        &[1],
+        &after,
+    );
+    assert_leaves(
+        Call::new(cells, &operations, &schedule),
+        [2, 1, 0],
+        &[answer("full", 0), answer("inserted", 0)],
+        &[1, 0],
+        &after,
+    );
+}
+
+/// An operation on key 1 with its amount, its answer with its total, and how
+/// both are listed.
+type Line = ((&'static str, u64), (&'static str, u32), &'static str);
+
+const LINES: [Line; 8] = [
+    (("find", 0), ("found", 65_535), "find 1 0 found pinned"),
+    (
+        ("insert", 65_535),
+        ("present", 65_534),
+        "insert 1 pinned present 65534",
+    ),
+    (
+        ("update", 65_534),
+        ("changed", 0),
+        "update 1 65534 changed 0",
+    ),
+    (("add", 0), ("inserted", 0), "add 1 0 inserted 0"),
+    (("remove", 0), ("removed", 10), "remove 1 0 removed 10"),
+    (("find", 0), ("absent", 0), "find 1 0 absent 0"),
+    (("find", 0), ("unfinished", 0), "find 1 0 unfinished 0"),
+    (("insert", 909), ("full", 0), "insert 1 909 full 0"),
+];
+
+#[test]
+fn every_kind_and_answer_is_listed() {
+    let outcome = Outcome {
+        number: 0,
+        place: 0,
+        done: 3,
+        lost: 12_345,
+        idle: 10,
+    };
+    let (mut operations, mut answers) = (vec![], vec![]);
+    let mut expected = String::from("text\nrows 8 done 3 lost 12345 idle 10\n");
+    for (number, ((kind, amount), (name, total), line)) in LINES.into_iter().enumerate() {
+        operations.push(operation(kind, 1, amount));
+        answers.push(answer(name, total));
+        expected += &format!("row {number} {line}\n");
+    }
+    expected += "log 7 0 5\ncell 0 65534 0\ncell 9 gone\ncell 15 7 pinned\n";
+    // One answer and one log byte stand past what the run wrote.
+    answers.push(answer("found", 9));
+    let log = [7, 0, 5, 1];
+    let cells = table(16, &[(0, 65_534, 0), (9, 65_535, 0), (15, 7, 65_535)]);
+    let mut out = b"text\n".to_vec();
+    list(&outcome, &cells, &operations, &answers, &log, &mut out);
+    assert_eq!(String::from_utf8(out).unwrap(), expected);
+}
+
+#[test]
+fn a_refusal_is_one_line_whatever_is_lent() {
+    let outcome = Outcome {
+        number: 12,
+        place: 65_535,
+        done: 0,
+        lost: 0,
+        idle: 0,
+    };
+    let mut out = vec![];
+    list(&outcome, &[65_536; 8], &[0], &[65_536], &[0], &mut out);
+    assert_eq!(out, b"refused 12 at 65535\n");
+}

@@ -1,0 +1,398 @@
+//! Every case that the specification works out, in its order and with every
+//! number it states. Tables have 8 cells where no other number stands.
+
+mod support {
+    pub mod answers;
+    pub mod calls;
+    pub mod files;
+    pub mod leaves;
+    pub mod words;
+}
+
+use model::{home, load, run, sum, Loaded, Outcome};
+use support::answers::answer;
+use support::calls::{Call, OLD_ANSWER, OLD_LOG};
+use support::files::{cl, op, sc, tb, text};
+use support::leaves::assert_leaves;
+use support::words::{operation, table, GONE};
+
+fn refused(number: u32, place: usize) -> Outcome {
+    Outcome {
+        number,
+        place,
+        done: 0,
+        lost: 0,
+        idle: 0,
+    }
+}
+
+#[test]
+fn homes_in_eight_cells() {
+    let worked = [
+        (4, vec![1, 9, 17]),
+        (1, vec![2, 10]),
+        (0, vec![5]),
+        (7, vec![8, 16]),
+    ];
+    for (cell, keys) in worked {
+        for key in keys {
+            assert_eq!(home(key, 8), cell, "key {key}");
+        }
+    }
+}
+
+#[test]
+fn sums_near_the_most() {
+    assert_eq!(sum(65_534, 0), 65_534);
+    assert_eq!(sum(65_534, 1), 65_535);
+    assert_eq!(sum(65_535, 0), 65_535);
+}
+
+const IN_FULL: [u8; 39] = [
+    0x54, 0x42, 0x03, // a table of 8 cells
+    0x4F, 0x50, 0x04, 0x00, 0x01, 0x00, 0x28, // add 1 40
+    0x4F, 0x50, 0x04, 0x00, 0x09, 0x00, 0x19, // add 9 25
+    0x4F, 0x50, 0x04, 0x00, 0x01, 0xFF, 0xDC, // add 1 65500
+    0x53, 0x43, 0x0C, // twelve entries
+    0x00, 0x01, 0x02, 0x00, 0x01, 0x02, 0x01, 0x01, 0x02, 0x02, 0x01, 0x00,
+];
+
+#[test]
+fn run_in_full_text() {
+    let expected = "rows 3 done 3 lost 2 idle 1\n\
+                    row 0 add 1 40 inserted 0\n\
+                    row 1 add 9 25 inserted 0\n\
+                    row 2 add 1 65500 changed 40\n\
+                    log 0 2 1\n\
+                    cell 4 1 pinned\n\
+                    cell 5 9 25\n";
+    assert_eq!(text(&IN_FULL), expected);
+}
+
+#[test]
+fn run_in_full_slices() {
+    let operations = [
+        operation("add", 1, 40),
+        operation("add", 9, 25),
+        operation("add", 1, 65_500),
+    ];
+    assert_leaves(
+        Call::new(
+            table(8, &[]),
+            &operations,
+            &[0, 1, 2, 0, 1, 2, 1, 1, 2, 2, 1, 0],
+        ),
+        [3, 2, 1],
+        &[
+            answer("inserted", 0),
+            answer("inserted", 0),
+            answer("changed", 40),
+        ],
+        &[0, 2, 1],
+        &table(8, &[(4, 1, 65_535), (5, 9, 25)]),
+    );
+}
+
+#[test]
+fn insert_passes_a_tombstone_slices() {
+    let operations = [operation("remove", 1, 0), operation("insert", 9, 7)];
+    let after = table(8, &[(4, 65_535, 0), (5, 9, 25)]);
+    assert_eq!(after[4], GONE);
+    assert_leaves(
+        Call::new(
+            table(8, &[(4, 1, 40), (5, 9, 25)]),
+            &operations,
+            &[0, 0, 1, 1],
+        ),
+        [2, 0, 0],
+        &[answer("removed", 40), answer("present", 25)],
+        &[0, 1],
+        &after,
+    );
+}
+
+#[test]
+fn insert_passes_a_tombstone_text() {
+    let file = [
+        tb(3),
+        cl(4, 1, 40),
+        cl(5, 9, 25),
+        op(5, 1, 0),
+        op(2, 9, 7),
+        sc(&[0, 0, 1, 1]),
+    ];
+    let expected = "rows 2 done 2 lost 0 idle 0\n\
+                    row 0 remove 1 0 removed 40\n\
+                    row 1 insert 9 7 present 25\n\
+                    log 0 1\n\
+                    cell 4 gone\n\
+                    cell 5 9 25\n";
+    assert_eq!(text(&file.concat()), expected);
+}
+
+#[test]
+fn second_add_loses_once_slices() {
+    let operations = [operation("add", 1, 5), operation("add", 1, 7)];
+    assert_leaves(
+        Call::new(table(8, &[(4, 1, 40)]), &operations, &[0, 1, 0, 1, 1, 1]),
+        [2, 1, 0],
+        &[answer("changed", 40), answer("changed", 45)],
+        &[0, 1],
+        &table(8, &[(4, 1, 52)]),
+    );
+}
+
+#[test]
+fn second_add_loses_once_text() {
+    let file = [
+        tb(3),
+        cl(4, 1, 40),
+        op(4, 1, 5),
+        op(4, 1, 7),
+        sc(&[0, 1, 0, 1, 1, 1]),
+    ];
+    let expected = "rows 2 done 2 lost 1 idle 0\n\
+                    row 0 add 1 5 changed 40\n\
+                    row 1 add 1 7 changed 45\n\
+                    log 0 1\n\
+                    cell 4 1 52\n";
+    assert_eq!(text(&file.concat()), expected);
+}
+
+/// Keys 1 to 8, each at its home.
+const FULL: [(usize, u32, u32); 8] = [
+    (0, 5, 50),
+    (1, 2, 20),
+    (2, 7, 70),
+    (3, 4, 40),
+    (4, 1, 10),
+    (5, 6, 60),
+    (6, 3, 30),
+    (7, 8, 80),
+];
+
+#[test]
+fn keys_one_to_eight_stand_at_home() {
+    for (cell, key, _) in FULL {
+        assert_eq!(home(key, 8) as usize, cell, "key {key}");
+    }
+}
+
+#[test]
+fn add_to_a_full_table_is_unfinished_after_seven_steps() {
+    assert_leaves(
+        Call::new(table(8, &FULL), &[operation("add", 9, 3)], &[0; 7]),
+        [0, 0, 0],
+        &[answer("unfinished", 0)],
+        &[],
+        &table(8, &FULL),
+    );
+}
+
+#[test]
+fn add_to_a_full_table_is_full_at_the_eighth_step() {
+    assert_leaves(
+        Call::new(table(8, &FULL), &[operation("add", 9, 3)], &[0; 8]),
+        [1, 0, 0],
+        &[answer("full", 0)],
+        &[0],
+        &table(8, &FULL),
+    );
+}
+
+#[test]
+fn find_in_a_full_table_is_absent_at_the_eighth_step() {
+    let find = [operation("find", 9, 0)];
+    assert_leaves(
+        Call::new(table(8, &FULL), &find, &[0; 7]),
+        [0, 0, 0],
+        &[answer("unfinished", 0)],
+        &[],
+        &table(8, &FULL),
+    );
+    assert_leaves(
+        Call::new(table(8, &FULL), &find, &[0; 8]),
+        [1, 0, 0],
+        &[answer("absent", 0)],
+        &[0],
+        &table(8, &FULL),
+    );
+}
+
+#[test]
+fn after_the_last_cell_comes_cell_zero() {
+    let add = [operation("add", 16, 3)];
+    let before = table(8, &[(7, 8, 1)]);
+    assert_leaves(
+        Call::new(before.clone(), &add, &[0; 2]),
+        [0, 0, 0],
+        &[answer("unfinished", 0)],
+        &[],
+        &before,
+    );
+    assert_leaves(
+        Call::new(before, &add, &[0; 3]),
+        [1, 0, 0],
+        &[answer("inserted", 0)],
+        &[0],
+        &table(8, &[(0, 16, 3), (7, 8, 1)]),
+    );
+}
+
+#[test]
+fn a_key_behind_an_empty_cell_is_refused() {
+    let mut call = Call::new(table(8, &[(5, 9, 25)]), &[], &[]);
+    let before = call.clone();
+    assert_eq!(call.run(), refused(8, 5));
+    assert_eq!(call, before);
+    let file = [tb(3), cl(5, 9, 25)];
+    assert_eq!(text(&file.concat()), "refused 8 at 5\n");
+}
+
+#[test]
+fn a_key_in_two_cells_is_refused() {
+    let mut call = Call::new(table(8, &[(4, 1, 40), (5, 1, 40)]), &[], &[]);
+    let before = call.clone();
+    assert_eq!(call.run(), refused(7, 5));
+    assert_eq!(call, before);
+    let file = [tb(3), cl(4, 1, 40), cl(5, 1, 40)];
+    assert_eq!(text(&file.concat()), "refused 7 at 5\n");
+}
+
+#[test]
+fn four_or_twelve_cells_are_refused() {
+    for c in [4, 12] {
+        let mut call = Call::new(table(c, &[]), &[], &[]);
+        let before = call.clone();
+        assert_eq!(call.run(), refused(1, 0), "{c} cells");
+        assert_eq!(call, before);
+    }
+}
+
+/// `count` entries that name the 64 operations in turn.
+fn in_turn(count: usize) -> Vec<u8> {
+    (0..count).map(|place| (place % 64) as u8).collect()
+}
+
+#[test]
+fn the_most_operations_and_entries_run() {
+    // Each find finishes at its first entry; the others are idle.
+    let finds = [operation("find", 1, 0); 64];
+    assert_leaves(
+        Call::new(table(8, &[]), &finds, &in_turn(16_384)),
+        [64, 0, 16_320],
+        &[answer("absent", 0); 64],
+        &in_turn(64),
+        &table(8, &[]),
+    );
+}
+
+#[test]
+fn more_operations_or_entries_are_refused() {
+    let find = operation("find", 1, 0);
+    let mut call = Call::new(table(8, &[]), &[find; 65], &in_turn(16_384));
+    assert_eq!(call.run(), refused(2, 0));
+    let mut call = Call::new(table(8, &[]), &[find; 64], &in_turn(16_385));
+    assert_eq!(call.run(), refused(2, 0));
+}
+
+/// A file of as many finds of key 1 and as many entries, each record of
+/// entries as long as can be.
+fn file_of(operations: usize, entries: usize) -> Vec<u8> {
+    let mut file = tb(3);
+    for _ in 0..operations {
+        file.extend(op(1, 1, 0));
+    }
+    for part in in_turn(entries).chunks(255) {
+        file.extend(sc(part));
+    }
+    file
+}
+
+#[test]
+fn a_file_of_the_most_operations_and_entries_runs() {
+    let mut expected = String::from("rows 64 done 64 lost 0 idle 16320\n");
+    for number in 0..64 {
+        expected += &format!("row {number} find 1 0 absent 0\n");
+    }
+    expected += "log";
+    for number in 0..64 {
+        expected += &format!(" {number}");
+    }
+    expected += "\n";
+    assert_eq!(text(&file_of(64, 16_384)), expected);
+}
+
+#[test]
+fn a_file_of_more_operations_or_entries_is_refused() {
+    // 3 bytes of TB and 64 rows of 7 come before the 65th row.
+    assert_eq!(text(&file_of(65, 16_384)), "refused 2 at 451\n");
+    // The last record, after 64 of 258 bytes, brings 65 entries to 16,320.
+    assert_eq!(text(&file_of(64, 16_385)), "refused 2 at 16963\n");
+}
+
+fn load_bytes(file: &[u8]) -> Loaded {
+    load(file, &mut [7; 4_096], &mut [7; 64], &mut [7; 16_384])
+}
+
+#[test]
+fn tables_of_the_least_and_most_cells_are_read() {
+    for (k, c) in [(3, 8), (12, 4_096)] {
+        let read = Loaded {
+            number: 0,
+            place: 0,
+            cells: c,
+            operations: 0,
+            entries: 0,
+        };
+        assert_eq!(load_bytes(&tb(k)), read);
+        assert_eq!(text(&tb(k)), "rows 0 done 0 lost 0 idle 0\nlog\n");
+    }
+}
+
+#[test]
+fn tables_of_fewer_or_more_cells_are_refused() {
+    let refused = Loaded {
+        number: 11,
+        place: 0,
+        cells: 0,
+        operations: 0,
+        entries: 0,
+    };
+    for k in [2, 13] {
+        assert_eq!(load_bytes(&tb(k)), refused);
+        assert_eq!(text(&tb(k)), "refused 11 at 0\n");
+    }
+}
+
+#[test]
+fn operations_without_entries() {
+    let before = table(8, &[(4, 1, 40), (5, 65_535, 0)]);
+    let operations = [operation("add", 1, 5), operation("remove", 1, 0)];
+    let mut cells = before.clone();
+    let mut answers = [OLD_ANSWER; 4];
+    let mut log = [OLD_LOG; 4];
+    let outcome = run(&mut cells, &operations, &[], &mut answers, &mut log);
+    assert_eq!(outcome, refused(0, 0));
+    assert_eq!(answers, [0, 0, OLD_ANSWER, OLD_ANSWER]);
+    assert_eq!(log, [OLD_LOG; 4]);
+    assert_eq!(cells, before);
+}
+
+#[test]
+fn operations_without_entries_text() {
+    let file = [
+        tb(3),
+        cl(4, 1, 40),
+        cl(5, 65_535, 0),
+        op(4, 1, 5),
+        op(5, 1, 0),
+    ];
+    let expected = "rows 2 done 0 lost 0 idle 0\n\
+                    row 0 add 1 5 unfinished 0\n\
+                    row 1 remove 1 0 unfinished 0\n\
+                    log\n\
+                    cell 4 1 40\n\
+                    cell 5 gone\n";
+    assert_eq!(text(&file.concat()), expected);
+}
