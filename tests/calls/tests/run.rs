@@ -1,0 +1,266 @@
+//! Calls of the run: lengths and words that no run file has. Every call is made
+//! of the proved run and of the second model, and all that they leave compared.
+
+use generated::files::case;
+use generated::random::Random;
+use model::Outcome;
+
+/// What a run is lent. The slices hold something before the run, so that what
+/// it leaves alone shows.
+#[derive(Debug, Clone, PartialEq)]
+struct Call {
+    cells: Vec<u32>,
+    operations: Vec<u64>,
+    schedule: Vec<u8>,
+    answers: Vec<u32>,
+    log: Vec<u8>,
+}
+
+const FIND: u64 = 1;
+const ADD: u64 = 4;
+const REMOVE: u64 = 5;
+
+fn cell(key: u32, total: u32) -> u32 {
+    key * 65_536 + total
+}
+
+fn operation(kind: u64, key: u64, amount: u64) -> u64 {
+    (kind << 32) + key * 65_536 + amount
+}
+
+/// Two rooms and a tombstone in eight cells, three operations that all finish,
+/// and slices longer than needed.
+fn accepted() -> Call {
+    let mut cells = vec![0; 8];
+    (cells[4], cells[5], cells[7]) = (cell(1, 40), cell(9, 25), cell(65_535, 0));
+    Call {
+        cells,
+        operations: vec![
+            operation(ADD, 1, 5),
+            operation(FIND, 9, 0),
+            operation(REMOVE, 1, 0),
+        ],
+        schedule: vec![0, 1, 0, 1, 2, 2, 2],
+        answers: vec![0xAAAA_AAAA; 6],
+        log: vec![0xBB; 7],
+    }
+}
+
+/// As many adds as are asked for, a room each, and room for their answers.
+fn adds(count: usize) -> Call {
+    Call {
+        cells: vec![0; 128],
+        operations: (0..count as u64)
+            .map(|i| operation(ADD, i + 1, i))
+            .collect(),
+        schedule: (0..count.min(64) as u8).rev().collect(),
+        answers: vec![7; count],
+        log: vec![9; count],
+    }
+}
+
+/// Makes the call twice. A refused call leaves every slice as it was; an
+/// accepted one keeps the answers and log bytes past those that it writes.
+fn made(call: &Call) -> Outcome {
+    let (mut proved, mut model) = (call.clone(), call.clone());
+    let outcome = calls::run(
+        &mut proved.cells,
+        &proved.operations,
+        &proved.schedule,
+        &mut proved.answers,
+        &mut proved.log,
+    );
+    let wanted = model::run(
+        &mut model.cells,
+        &model.operations,
+        &model.schedule,
+        &mut model.answers,
+        &mut model.log,
+    );
+    assert_eq!(outcome, wanted, "{call:?}");
+    assert_eq!(proved, model, "{call:?}");
+    if outcome.number != 0 {
+        assert_eq!(&proved, call);
+        assert_eq!((outcome.done, outcome.lost, outcome.idle), (0, 0, 0));
+    } else {
+        let written = call.operations.len();
+        assert_eq!(proved.answers[written..], call.answers[written..]);
+        assert_eq!(proved.log[outcome.done..], call.log[outcome.done..]);
+    }
+    outcome
+}
+
+fn refusal(call: &Call) -> (u32, usize) {
+    let outcome = made(call);
+    (outcome.number, outcome.place)
+}
+
+#[test]
+fn the_call_that_the_others_change_is_accepted() {
+    let outcome = made(&accepted());
+    assert_eq!((outcome.number, outcome.place), (0, 0));
+    assert_eq!((outcome.done, outcome.lost, outcome.idle), (3, 0, 1));
+}
+
+#[test]
+fn cells_of_every_length() {
+    for c in (0..=4_200).chain([8_191, 8_192, 16_384, 65_536, 70_000]) {
+        let allowed = [8, 16, 32, 64, 128, 256, 512, 1_024, 2_048, 4_096].contains(&c);
+        let mut call = accepted();
+        call.cells = vec![0; c];
+        assert_eq!(refusal(&call), (u32::from(!allowed), 0), "{c} cells");
+    }
+}
+
+#[test]
+fn more_than_64_operations() {
+    for count in 0..=130 {
+        let wanted = if count > 64 { 2 } else { 0 };
+        assert_eq!(refusal(&adds(count)), (wanted, 0), "{count} operations");
+    }
+}
+
+#[test]
+fn more_than_16384_entries() {
+    for (entries, wanted) in [(16_383, 0), (16_384, 0), (16_385, 2), (40_000, 2)] {
+        let mut call = accepted();
+        call.schedule = vec![1; entries];
+        assert_eq!(refusal(&call), (wanted, 0), "{entries} entries");
+    }
+}
+
+#[test]
+fn answers_or_log_shorter_than_the_operations() {
+    for count in 0..=64 {
+        for answers in [0, count / 2, count.max(1) - 1, count, count + 1] {
+            for log in [0, count / 2, count.max(1) - 1, count, count + 1] {
+                let mut call = adds(count);
+                call.answers.resize(answers, 3);
+                call.log.resize(log, 5);
+                let short = answers < count || log < count;
+                let wanted = if short { 3 } else { 0 };
+                assert_eq!(refusal(&call), (wanted, 0), "{count} {answers} {log}");
+            }
+        }
+    }
+}
+
+#[test]
+fn key_0_or_65535_with_a_total() {
+    for place in 0..8 {
+        for key in [0, 65_535] {
+            for total in [1, 2, 255, 256, 32_768, 65_534, 65_535] {
+                let mut call = accepted();
+                call.cells[place] = cell(key, total);
+                assert_eq!(refusal(&call), (4, place));
+            }
+        }
+    }
+}
+
+#[test]
+fn bits_above_the_kind() {
+    for row in 0..3 {
+        for bit in 40..64 {
+            let mut call = accepted();
+            call.operations[row] |= 1 << bit;
+            assert_eq!(refusal(&call), (5, row), "bit {bit}");
+        }
+    }
+}
+
+#[test]
+fn every_kind_with_and_without_an_amount() {
+    for kind in 0..=255 {
+        for key in [0, 1, 9, 65_534, 65_535] {
+            for amount in [0, 1, 65_535] {
+                let mut call = accepted();
+                call.operations[1] = operation(kind, key, amount);
+                let live = (1..=65_534).contains(&key);
+                let takes_it = amount == 0 || (2..=4).contains(&kind);
+                let allowed = (1..=5).contains(&kind) && live && takes_it;
+                let wanted = if allowed { (0, 0) } else { (5, 1) };
+                assert_eq!(refusal(&call), wanted, "{kind} {key} {amount}");
+            }
+        }
+    }
+}
+
+#[test]
+fn entries_that_name_no_operation() {
+    for entry in 0..=255 {
+        for place in 0..7 {
+            let mut call = accepted();
+            call.schedule[place] = entry;
+            let wanted = if entry < 3 { (0, 0) } else { (6, place) };
+            assert_eq!(refusal(&call), wanted, "{entry}");
+        }
+    }
+}
+
+/// Spoils a call in one of the ways that a caller can and a file cannot.
+fn spoil(call: &mut Call, random: &mut Random) {
+    let some = |length: usize, random: &mut Random| random.below(length.max(1));
+    match random.below(10) {
+        0 => call.cells.truncate(some(call.cells.len(), random)),
+        1 => call.cells.push(0),
+        2 => call.answers.truncate(some(call.answers.len(), random)),
+        3 => call.log.truncate(some(call.log.len(), random)),
+        4 => call
+            .operations
+            .resize(random.between(60, 70), operation(ADD, 3, 1)),
+        5 => call.schedule.resize(random.between(16_380, 16_390), 0),
+        6 => {
+            let place = some(call.cells.len(), random);
+            if let Some(word) = call.cells.get_mut(place) {
+                *word = random.next() as u32 & random.pick(&[0xFFFF, 0xFFFF_FFFF, 0xFFFF_0000]);
+            }
+        }
+        7 => {
+            let place = some(call.operations.len(), random);
+            if let Some(word) = call.operations.get_mut(place) {
+                *word ^= 1 << random.below(64);
+            }
+        }
+        8 => call.schedule.push(random.byte()),
+        _ => call.cells.reverse(),
+    }
+}
+
+#[test]
+fn calls_at_random() {
+    let mut refused = [0; 9];
+    for index in 0..12_000 {
+        let mut random = Random::new(5, index);
+        let mut call = Call {
+            cells: vec![0; 4_096],
+            operations: vec![0; 64],
+            schedule: vec![0; 16_384],
+            answers: Vec::new(),
+            log: Vec::new(),
+        };
+        let file = case(5, index as usize).file;
+        let loaded = model::load(
+            &file,
+            &mut call.cells,
+            &mut call.operations,
+            &mut call.schedule,
+        );
+        call.cells.truncate(loaded.cells.max(8));
+        call.operations.truncate(loaded.operations);
+        call.schedule.truncate(loaded.entries);
+        let count = call.operations.len();
+        call.answers = (0..count + random.below(3))
+            .map(|_| random.next() as u32)
+            .collect();
+        call.log = (0..count + random.below(3))
+            .map(|_| random.byte())
+            .collect();
+        for _ in 0..random.below(4) {
+            spoil(&mut call, &mut random);
+        }
+        refused[made(&call).number as usize] += 1;
+    }
+    println!("calls by refusal, 0 to 8: {refused:?}");
+    assert!(refused.iter().all(|&count| count > 0), "{refused:?}");
+}
