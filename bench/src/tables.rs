@@ -1,0 +1,30 @@
+//! Starting tables, and schedules in which every entry is a passing step.
+
+use crate::runfile::{key_at, RunFile, ADD};
+
+/// A full table: every cell has a key whose home it is.
+pub fn full(k: u8) -> RunFile {
+    let mut file = RunFile::empty(k);
+    for cell in 0..1_usize << k {
+        let key = key_at(cell, k, 1);
+        file.cells.push((cell as u16, key, cell as u16));
+    }
+    file
+}
+
+/// A full table, and operations that pass a cell at each of their entries: they
+/// add to rooms that the table does not have. Their homes lie evenly over the
+/// table, and they take turns. Each operation must get fewer entries than there
+/// are cells, or it would finish.
+pub fn all_passing(k: u8, operations: usize, entries: usize) -> RunFile {
+    let mut file = full(k);
+    let c = 1 << k;
+    assert!(entries < operations * c, "an operation would finish");
+    for row in 0..operations {
+        // The table has the first key of each home, so the second is in no cell.
+        let key = key_at(row * c / operations, k, 2);
+        file.operations.push((ADD, key, row as u16));
+    }
+    file.schedule = (0..entries).map(|i| (i % operations) as u8).collect();
+    file
+}
