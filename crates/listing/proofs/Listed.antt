@@ -1,9 +1,8 @@
 -- The lines of a text, written one after another, are the text.
 -- Assumes nothing.
-use mathlib.Core.Path.{_≡_, refl}
-use Prim.Native.Nat.{ℕ, _+_, min}
+use mathlib.Core.Path.{_≡_}
+use Prim.Native.Nat.{ℕ, min}
 use mathlib.Core.List.{List, _++_}
-use native.Mathlib.Numerals.{add-one}
 use lib.ListN.{length, getD}
 use borrow.Author.Tests.{eq-eqb, ne-eqb}
 use Rattle.semantics.specs.declared.Outcome.{Outcome}
@@ -17,16 +16,6 @@ module _ (w : Writing) where
       → written a (textsBelow (min done (length log)) (λ i. text " " ++ decimal (getD log i 0))) ≡ b → written b lineEnd ≡ v → written w (logText done log) ≡ v
   unfolding logText
   log-line done log e f g = next w _ lineEnd (next w (text "log") _ e f) g
-
-  -- the texts of the numbers below one, and one more
-  pub no-text : (f : ℕ → List ℕ) → written w (textsBelow 0 f) ≡ w
-  unfolding textsBelow written
-  no-text f = refl
-
-  pub next-text : {a v : Writing} (i : ℕ) (f : ℕ → List ℕ) → written w (textsBelow i f) ≡ a → written a (f i) ≡ v
-      → written w (textsBelow (i + 1) f) ≡ v
-  unfolding textsBelow
-  next-text i f e g = rw (add-one i) (next w (textsBelow i f) (f i) e g)
 
   module _ (outcome : Outcome) (operations answers log cells : List ℕ) where
     pub run-lines : {a b c v : Writing} → outcome .number ≡ 0 → written w (countsText (length operations) outcome) ≡ a

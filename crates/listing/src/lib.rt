@@ -4,45 +4,21 @@
 // the writer of the crate text does: past the slice's end bytes are counted and stored nowhere.
 ghost use mathlib.Core.Path.{_≡_};
 ghost use mathlib.Core.List.{_++_};
-ghost use Prim.Native.Nat.{min};
+ghost use Prim.Native.Nat.{_≤_, _<_, min};
+ghost use lib.Dec.{leb};
 ghost use lib.ListN.{length, getD};
 ghost use Rattle.semantics.specs.Text.{text, decimal, textsBelow, handed};
-ghost use Rattle.semantics.specs.Listing.{rowText, logText, cellText, listing};
-ghost use Rattle.text.specs.Writing.{written};
-use lines::put_cell;
+ghost use Rattle.semantics.specs.Listing.{logText, listing};
+ghost use Rattle.text.specs.Writing.{lastPosition, written};
+use cell_lines::put_cells;
 use lines::put_counts;
 use lines::put_refusal;
-use lines::put_row;
+use row_lines::put_rows;
 use semantics::Outcome;
 use semantics::Written;
 use text::put;
 use text::put_bytes;
 use text::put_labelled;
-
-// The answer of operation i; 0, unfinished, where the slice has none.
-fn answer_of(answers: &[u32], i: usize) -> u32
-    ensures { λ r. ⌜ r ≡ getD (now (answers .entry)) i 0 ⌝ }
-{
-    if i < answers.len() {
-        return answers[i];
-    }
-    0
-}
-
-// A line for each operation.
-fn put_rows(out: &mut [u8], at: usize, operations: &[u64], answers: &[u32]) -> usize
-    ensures { λ r. ⌜ written (record { at = at; out = now (out .entry) })
-        (textsBelow (length (now (operations .entry))) (λ i. rowText i (getD (now (operations .entry)) i 0) (getD (now (answers .entry)) i 0)))
-        ≡ record { at = r; out = now (out .exit) } ⌝ }
-{
-    let mut next = at;
-    let mut i = 0;
-    while i < operations.len() {
-        next = put_row(out, next, i, operations[i], answer_of(answers, i));
-        i = i + 1;
-    }
-    next
-}
 
 // The smaller of two numbers.
 fn least(a: usize, b: usize) -> usize
@@ -76,21 +52,6 @@ fn put_log(out: &mut [u8], at: usize, done: usize, log: &[u8]) -> usize
     put(out, at2, 10)
 }
 
-// The lines of the cells.
-fn put_cells(out: &mut [u8], at: usize, cells: &[u32]) -> usize
-    ensures { λ r. ⌜ written (record { at = at; out = now (out .entry) })
-        (textsBelow (length (now (cells .entry))) (λ i. cellText i (getD (now (cells .entry)) i 0)))
-        ≡ record { at = r; out = now (out .exit) } ⌝ }
-{
-    let mut next = at;
-    let mut i = 0;
-    while i < cells.len() {
-        next = put_cell(out, next, i, cells[i]);
-        i = i + 1;
-    }
-    next
-}
-
 // The lines of a run, or the line of a refusal, from the slice's front on.
 fn put_listing(
     out: &mut [u8],
@@ -112,9 +73,43 @@ fn put_listing(
     put_refusal(out, 0, outcome.number, outcome.place)
 }
 
+// A length that no text of so many operations, log bytes and cells exceeds; where none is known, one
+// that no slice has.
+fn most_bytes(operations: usize, log: usize, cells: usize) -> usize
+    ensures { λ r. ⌜ (r < lastPosition → (98304 ≤ r) × (operations ≤ 64) × (log ≤ 64) × (cells ≤ 4096)) ⌝ }
+{
+    if operations <= 64 {
+        if log <= 64 {
+            if cells <= 4096 {
+                return 98304;
+            }
+        }
+    }
+    18446744073709551615
+}
+
+// Whether a text fits. Where any would, it is not looked at; elsewhere it is measured, on a slice of
+// one byte.
+fn has_room(
+    outcome: Outcome,
+    operations: &[u64],
+    answers: &[u32],
+    log: &[u8],
+    cells: &[u32],
+    room: usize,
+) -> bool
+    requires { ⌜ room < lastPosition ⌝ }
+    ensures { λ r. ⌜ r ≡ leb (length (listing outcome (now (operations .entry)) (now (answers .entry)) (now (log .entry)) (now (cells .entry)))) room ⌝ }
+{
+    if most_bytes(operations.len(), log.len(), cells.len()) <= room {
+        return true;
+    }
+    let mut probe = [0u8; 1];
+    put_listing(&mut probe, outcome, operations, answers, log, cells) <= room
+}
+
 // Writes the text of what a run returned, with its operations and what it left: whole, over the
-// front of the slice, or not at all if the slice is too short. What the text would take is measured
-// first, on a slice of one byte, so nothing is written before a slice is refused.
+// front of the slice, or not at all if the slice is too short.
 pub fn list(
     outcome: Outcome,
     operations: &[u64],
@@ -126,9 +121,7 @@ pub fn list(
     ensures { λ r. ⌜ handed (listing outcome (now (operations .entry)) (now (answers .entry)) (now (log .entry)) (now (cells .entry))) (now (out .entry))
         ≡ record { written = r; out = now (out .exit) } ⌝ }
 {
-    let mut probe = [0u8; 1];
-    let length = put_listing(&mut probe, outcome, operations, answers, log, cells);
-    if length <= out.len() {
+    if has_room(outcome, operations, answers, log, cells, out.len()) {
         return Written {
             number: 0,
             place: 0,

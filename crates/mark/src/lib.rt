@@ -1,8 +1,8 @@
 // What stands at an offset of a run file (document 01, "The run file"): a byte, a number of two bytes,
 // or the mark of a record; and the order that the marks come in. Every function takes every offset.
 ghost use mathlib.Core.Path.{_≡_};
-ghost use Prim.Native.Nat.{_+_};
-ghost use Rattle.semantics.specs.RunFile.{byteAt, pairAt, hasMark, markAt, partOf, mayFollow};
+ghost use Prim.Native.Nat.{_+_, _*_, _<_};
+ghost use Rattle.semantics.specs.RunFile.{byteAt, pairAt, hasMark, markAt, mayFollow};
 use semantics::Mark;
 
 // The byte at an offset, and the one after it; 0 past the end.
@@ -24,21 +24,26 @@ fn byte_after(file: &[u8], at: usize) -> u8
     0
 }
 
-// A number of two bytes, the high byte first.
+// A number of two bytes, the high byte first. That the low one is a byte is said as well, since a caller
+// knows it of no element of a lent array.
+fn pair(high: u8, low: u8) -> u16
+    ensures { λ r. ⌜ (r ≡ high * 256 + low) × (low < 256) ⌝ }
+{
+    (high as u16) * 256 + (low as u16)
+}
+
 pub fn pair_at(file: &[u8], at: usize) -> u16
     ensures { λ r. ⌜ r ≡ pairAt (now (file .entry)) at ⌝ }
 {
-    (byte_at(file, at) as u16) * 256 + (byte_after(file, at) as u16)
+    pair(byte_at(file, at), byte_after(file, at))
 }
 
-// Whether a mark of two letters stands at an offset.
+// Whether a mark of two letters stands at an offset. Both letters are compared as one number, so that
+// the four tests of mark_at become one choice.
 fn has_mark(file: &[u8], at: usize, mark: &[u8; 2]) -> bool
     ensures { λ r. ⌜ r ≡ hasMark (now (file .entry)) at (now (mark .entry)) ⌝ }
 {
-    if byte_at(file, at) == mark[0] {
-        return byte_after(file, at) == mark[1];
-    }
-    false
+    pair_at(file, at) == pair(mark[0], mark[1])
 }
 
 pub fn mark_at(file: &[u8], at: usize) -> Mark
@@ -59,21 +64,9 @@ pub fn mark_at(file: &[u8], at: usize) -> Mark
     Mark::Unknown
 }
 
-// The order of the records: the part of the file that a mark belongs to, and whether a record of a
-// part may follow one of the part before, 0 before the first.
-pub fn part_of(mark: Mark) -> u8
-    ensures { λ r. ⌜ r ≡ partOf mark ⌝ }
-{
-    match mark {
-        Mark::Unknown => 0,
-        Mark::Table => 1,
-        Mark::Cell => 2,
-        Mark::Operation => 3,
-        Mark::Schedule => 4,
-    }
-}
-
-pub fn may_follow(before: u8, part: u8) -> bool
+// The order of the records: whether a record of a part may follow one of the part before, 0 before the
+// first.
+pub fn may_follow(before: usize, part: usize) -> bool
     ensures { λ r. ⌜ r ≡ mayFollow before part ⌝ }
 {
     if before == 0 {

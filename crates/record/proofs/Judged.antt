@@ -1,16 +1,15 @@
--- One record of a run file: which of its conditions decides, in table order; what holds of one that none turns away, and where the next one
--- begins; what a reading says; and that run files can be scanned.
+-- One record of a run file: which of its conditions decides, in table order; what holds of one that none turns away; and that run files can be
+-- scanned.
 -- Assumes nothing.
 use mathlib.Core.Path.{_≡_, refl, sym, ap, ap₂, subst, _∙_}
-use Prim.Native.Nat.{ℕ, _+_, _-_, _*_, _%_, _^_, _≤_, _<_}
+use Prim.Native.Nat.{ℕ, _+_, _-_, _≤_, _<_}
 use mathlib.Core.Bool.{Bool, true, false, cond, _||_, true≢false}
-use mathlib.Core.List.{List, [], _∷_}
+use mathlib.Core.List.{List}
 use native.Mathlib.Omega.{arith}
-use native.Mathlib.Nat.{one-mul}
-use lib.Dec.{eqb, leb, ltb, lit≤}
-use lib.Pow.{shl-exact}
-use lib.ListN.{length}
-use borrow.Author.Tests.{eq-eqb, ne-eqb, lt-ltb, le-ltb, ltb-false, leb-false, not-false}
+use lib.Dec.{eqb, leb, ltb}
+use lib.ListN.{length, take, drop, length-drop}
+use lib.Seq.{take-all}
+use borrow.Author.Tests.{lt-ltb, le-ltb, ltb-false, leb-false, not-false}
 use Rattle.semantics.specs.declared.Mark.{Mark}
 use Rattle.semantics.specs.declared.Mark.the-variants.{Table, Cell, Operation, Schedule, Unknown}
 use Rattle.semantics.specs.declared.Position.{Position}
@@ -20,54 +19,81 @@ use Rattle.semantics.specs.Records.{faultAt}
 use Rattle.semantics.specs.RunFile.{byteAt, pairAt, markAt, partOf, mayFollow, sizeOf, isBodyWrong, isOneTooMany, past, nextOf, runFile}
 use Rattle.semantics.specs.RunFile.{conditionsAt, markCut, markWrong, bodyCut, bodyWrong, oneTooMany}
 use Rattle.semantics.proofs.Start.{none-met}
-use Rattle.semantics.proofs.Records.{Scannable, Read}
+use Rattle.semantics.proofs.Records.{Scannable}
+use Rattle.semantics.proofs.Parts.{Agrees, rest-agrees, pair-agrees, mark-agrees}
 use Rattle.semantics.proofs.Tests.{same-test, compared, neither}
-use Rattle.record.specs.declared.Reading.{Reading}
-use Rattle.record.specs.Reads.{readingAt}
+use Rattle.faults.specs.Faults.{atFront, faultOf}
 
--- what is more than the room that is left is too much in all
-pub past-room : (most used more : ℕ) → used ≤ most → ltb (most - used) more ≡ ltb most (used + more)
-past-room most used more h =
-    same-test (ltb (most - used) more) (ltb most (used + more)) (λ t. omega compared) (λ t. omega compared)
+-- the record's conditions as tests, in table order
+number-of : (b : Bool) (r s : Refusal) → cond b r s .number ≡ cond b (r .number) (s .number)
+number-of true r s = refl
+number-of false r s = refl
 
-module _ (file : List ℕ) (p : Position) {m : Mark} (is : m ≡ markAt file (p .at)) where
-  judged : faultAt runFile file p ≡ firstMet (markCut file p ∷ markWrong file p ∷ bodyCut file p ∷ bodyWrong file p ∷ oneTooMany file p ∷ []) .number
-  unfolding faultAt conditionsAt
-  judged = refl
+module _ (file : List ℕ) (p : Position) where
+  abbrev rest : List ℕ
+  rest = drop (p .at) file
 
-  -- the first condition met, when those before it are not
-  pub mark-is-cut : length file < p .at + 2 → faultAt runFile file p ≡ 10
-  unfolding firstMet markCut
-  mark-is-cut h = judged ∙ rw (lt-ltb (length file) (p .at + 2) h)
+  same : Agrees 6 rest file (p .at)
+  same = rest-agrees 6 file (p .at)
 
-  module _ (marked : p .at + 2 ≤ length file) where
-    pub mark-is-wrong : mayFollow (p .part) (partOf m) ≡ false → faultAt runFile file p ≡ 9
-    unfolding firstMet markCut markWrong
-    mark-is-wrong f = judged ∙ rw (le-ltb (length file) (p .at + 2) marked, ← is, f)
+  judged : faultAt runFile file p
+      ≡ cond (markCut file p .met) 10 (cond (markWrong file p .met) 9 (cond (bodyCut file p .met) 10 (cond (bodyWrong file p .met) 11 (cond (oneTooMany file p .met) 2 0))))
+  unfolding faultAt conditionsAt firstMet markCut markWrong bodyCut bodyWrong oneTooMany
+  judged = simp number-of
 
-    module _ (follows : mayFollow (p .part) (partOf m) ≡ true) where
-      pub body-is-cut : length file < p .at + sizeOf file (p .at) m → faultAt runFile file p ≡ 10
-      unfolding firstMet markCut markWrong bodyCut
-      body-is-cut h =
-          judged
-          ∙ rw (le-ltb (length file) (p .at + 2) marked, ← is, follows, lt-ltb (length file) (p .at + sizeOf file (p .at) m) h)
+  pub mark-is-cut : length file < p .at + 2 → 10 ≡ faultAt runFile file p
+  unfolding markCut
+  mark-is-cut h = sym (judged ∙ rw (lt-ltb (length file) (p .at + 2) h))
 
-      module _ (whole : p .at + sizeOf file (p .at) m ≤ length file) where
-        pub body-is-wrong : isBodyWrong file p m ≡ true → faultAt runFile file p ≡ 11
-        unfolding firstMet markCut markWrong bodyCut bodyWrong
-        body-is-wrong w =
-            judged
-            ∙ rw (le-ltb (length file) (p .at + 2) marked, ← is, follows, le-ltb (length file) (p .at + sizeOf file (p .at) m) whole, w)
+  -- what is read of the bytes from the record on is what is read in its place
+  size-same : (m : Mark) → sizeOf rest 0 m ≡ sizeOf file (p .at) m
+  unfolding sizeOf
+  size-same Table = refl
+  size-same Cell = refl
+  size-same Operation = refl
+  size-same Schedule = ap (_+_ 3) (same .byte 2 (omega arith))
+  size-same Unknown = refl
 
-        pub count-decides : (b : Bool) → isBodyWrong file p m ≡ false → isOneTooMany file p m ≡ b → faultAt runFile file p ≡ cond b 2 0
-        unfolding firstMet markCut markWrong bodyCut bodyWrong oneTooMany
-        count-decides b w o =
-            judged
-            ∙ rw (le-ltb (length file) (p .at + 2) marked, ← is, follows, le-ltb (length file) (p .at + sizeOf file (p .at) m) whole, w, o) (decided b)
-          where
-            decided : (b : Bool) → cond {A = Refusal} b (record { number = 2; place = p .at }) (record { number = 0; place = 0 }) .number ≡ cond b 2 0
-            decided true = refl
-            decided false = refl
+  body-same : (m : Mark) → isBodyWrong rest (atFront p) m ≡ isBodyWrong file p m
+  unfolding isBodyWrong
+  body-same Table = ap (λ k. ltb k 3 || ltb 12 k) (same .byte 2 (omega arith))
+  body-same Cell =
+      ap₂ (λ n k. ltb n (p .lowest) || leb (p .size) n || eqb k 0) (pair-agrees same 2 (omega arith)) (pair-agrees same 4 (omega arith))
+  body-same Operation = refl
+  body-same Schedule = ap (λ n. eqb n 0) (same .byte 2 (omega arith))
+  body-same Unknown = refl
+
+  count-same : (m : Mark) → isOneTooMany rest (atFront p) m ≡ isOneTooMany file p m
+  unfolding isOneTooMany
+  count-same Table = refl
+  count-same Cell = refl
+  count-same Operation = refl
+  count-same Schedule = ap (λ n. ltb 16384 (p .entries + n)) (same .byte 2 (omega arith))
+  count-same Unknown = refl
+
+  on-rest : p .at + 2 ≤ length file → faultOf rest p (markAt rest 0) ≡ faultAt runFile file p
+  unfolding faultOf markCut markWrong bodyCut bodyWrong oneTooMany
+  on-rest whole =
+      let m = markAt file (p .at) in
+      let cut : ltb (length rest) (sizeOf file (p .at) m) ≡ ltb (length file) (p .at + sizeOf file (p .at) m) =
+      same-test _ _ (λ t. omega (compared, length-drop (p .at) file)) (λ t. omega (compared, length-drop (p .at) file)) in
+      rw (judged, le-ltb (length file) (p .at + 2) whole, mark-agrees same (omega arith), size-same m, body-same m, count-same m, cut)
+
+  -- so the bytes from a whole mark on, lent as a part of the file, say why its record is turned away
+  pub by-rest : p .at + 2 ≤ length file → {m M : Mark} → m ≡ markAt (take (length file - p .at) rest) 0 → m ≡ M → {n : ℕ}
+      → n ≡ faultOf (take (length file - p .at) rest) p M → n ≡ faultAt runFile file p
+  by-rest whole is told e =
+      let all = take-all (length file - p .at) rest (omega (arith, length-drop (p .at) file)) in
+      e ∙ ap₂ (λ l k. faultOf l p k) all (sym told ∙ is ∙ ap (λ l. markAt l 0) all) ∙ on-rest whole
+
+-- an unknown mark may follow nothing
+pub follows-nothing : (before : ℕ) → mayFollow before (partOf Unknown) ≡ false
+unfolding mayFollow partOf
+follows-nothing before = go (eqb before 0)
+  where
+    go : (b : Bool) → cond b false false ≡ false
+    go true = refl
+    go false = refl
 
 -- what holds of a record that no condition turns away
 pub record Sound (file : List ℕ) (p : Position) (m : Mark) : Type 0 where
@@ -88,27 +114,25 @@ sound file p {m} is e =
       room = many;
     })
 
--- a record has a mark at least
-pub two-bytes : (file : List ℕ) (at : ℕ) (m : Mark) → 2 ≤ sizeOf file at m
+-- a record with a known mark has three bytes at least
+three-bytes : (file : List ℕ) (at : ℕ) (m : Mark) → (m ≡ Unknown → ⊥) → 3 ≤ sizeOf file at m
 unfolding sizeOf
-two-bytes file at Table = omega arith
-two-bytes file at Cell = omega arith
-two-bytes file at Operation = omega arith
-two-bytes file at Schedule = omega arith
-two-bytes file at Unknown = omega arith
+three-bytes file at Table h = omega arith
+three-bytes file at Cell h = omega arith
+three-bytes file at Operation h = omega arith
+three-bytes file at Schedule h = omega arith
+three-bytes file at Unknown h = absurd (h refl)
 
 module _ {file : List ℕ} {p : Position} {m : Mark} (s : Sound file p m) where
-  pub within : p .at + 2 ≤ length file
-  within = omega (arith, two-bytes file (p .at) m, s .whole)
-
   -- what the tests of each mark say
   pub is-known : m ≡ Unknown → ⊥
-  unfolding mayFollow partOf
-  is-known e = go (eqb (p .part) 0) (ap (λ n. mayFollow (p .part) (partOf n)) (sym e) ∙ s .follows)
-    where
-      go : (b : Bool) → cond b false false ≡ true → ⊥
-      go true f = true≢false (sym f)
-      go false f = true≢false (sym f)
+  is-known e = true≢false (sym (s .follows) ∙ ap (λ n. mayFollow (p .part) (partOf n)) e ∙ follows-nothing (p .part))
+
+  pub within : p .at + 3 ≤ length file
+  within = omega (arith, three-bytes file (p .at) m is-known, s .whole)
+
+  pub whole-of : {M : Mark} → m ≡ M → p .at + sizeOf file (p .at) M ≤ length file
+  whole-of e = subst (λ n. p .at + sizeOf file (p .at) n ≤ length file) e (s .whole)
 
   pub exponent : m ≡ Table → (3 ≤ byteAt file (p .at + 2)) × (byteAt file (p .at + 2) ≤ 12)
   unfolding isBodyWrong
@@ -131,78 +155,6 @@ module _ {file : List ℕ} {p : Position} {m : Mark} (s : Sound file p m) where
   pub short : m ≡ Schedule → p .entries + byteAt file (p .at + 2) ≤ 16384
   unfolding isOneTooMany
   short e = ltb-false 16384 (p .entries + byteAt file (p .at + 2)) (ap (isOneTooMany file p) (sym e) ∙ s .room)
-
--- a table's size, by a shift
-power : (k : ℕ) → k ≤ 12 → (1 * 2 ^ k) % 2 ^ 64 ≡ 2 ^ k
-power k h = shl-exact 1 k 64 (lit≤ tt) (omega arith) ∙ one-mul (2 ^ k)
-
--- the position past a record of s bytes and part t
-abbrev beyond : Position → ℕ → ℕ → ℕ → ℕ → ℕ → ℕ → Position
-beyond p s t size lowest operations entries =
-    record { at = p .at + s; part = t; size = size; lowest = lowest; operations = operations; entries = entries }
-
-module _ (file : List ℕ) (p : Position) {m : Mark} {s t : ℕ} (long : s ≡ sizeOf file (p .at) m) (part : t ≡ partOf m) where
-  -- it is what the definition says of the mark, where size, lowest, operations and entries are
-  by-mark : (M : Mark) → m ≡ M → {z l o n : ℕ}
-      → beyond p (sizeOf file (p .at) M) (partOf M) z l o n ≡ past file p M
-      → beyond p s t z l o n ≡ past file p m
-  by-mark M e {z} {l} {o} {n} is =
-      ap₂ (λ a b. beyond p a b z l o n) (long ∙ ap (sizeOf file (p .at)) e) (part ∙ ap partOf e)
-      ∙ is
-      ∙ sym (ap (past file p) e)
-
-  pub past-table : m ≡ Table → {k : ℕ} → k ≡ byteAt file (p .at + 2) → byteAt file (p .at + 2) ≤ 12
-      → beyond p s t ((1 * 2 ^ k) % 2 ^ 64) (p .lowest) (p .operations) (p .entries) ≡ past file p m
-  unfolding past sizeOf partOf
-  past-table e {k} is h =
-      let size = ap (λ n. (1 * 2 ^ n) % 2 ^ 64) is ∙ power (byteAt file (p .at + 2)) h in
-      by-mark Table e (ap (λ n. beyond p 3 1 n (p .lowest) (p .operations) (p .entries)) size)
-
-  pub past-cell : m ≡ Cell → {n : ℕ} → n ≡ pairAt file (p .at + 2) → beyond p s t (p .size) (n + 1) (p .operations) (p .entries) ≡ past file p m
-  unfolding past sizeOf partOf
-  past-cell e is =
-      by-mark Cell e (ap (λ n. beyond p 8 2 (p .size) (n + 1) (p .operations) (p .entries)) is)
-
-  pub past-operation : m ≡ Operation → beyond p s t (p .size) (p .lowest) (p .operations + 1) (p .entries) ≡ past file p m
-  unfolding past sizeOf partOf
-  past-operation e = by-mark Operation e refl
-
-  pub past-schedule : m ≡ Schedule → {n : ℕ} → n ≡ byteAt file (p .at + 2) → beyond p s t (p .size) (p .lowest) (p .operations) (p .entries + n) ≡ past file p m
-  unfolding past sizeOf partOf
-  past-schedule e is =
-      by-mark Schedule e (ap (λ n. beyond p (3 + byteAt file (p .at + 2)) 4 (p .size) (p .lowest) (p .operations) (p .entries + n)) is)
-
--- what is read
-module _ (file : List ℕ) (p : Position) {m : Mark} (is : m ≡ markAt file (p .at)) where
-  pub read-on : faultAt runFile file p ≡ 0 → {q : Position} → q ≡ past file p m → record { number = 0; mark = m; next = q } ≡ readingAt file p
-  unfolding readingAt nextOf
-  read-on e {q} n =
-      let on : cond (eqb (faultAt runFile file p) 0) (past file p (markAt file (p .at))) p ≡ past file p m =
-      ap (λ (b : Bool). cond b (past file p (markAt file (p .at))) p) (eq-eqb (faultAt runFile file p) 0 e) ∙ sym (ap (past file p) is) in
-      λ i. record { number = sym e i; mark = is i; next = (n ∙ sym on) i }
-
-  pub read-faulty : {n : ℕ} → n ≡ faultAt runFile file p → (n ≡ 0 → ⊥) → record { number = n; mark = m; next = p } ≡ readingAt file p
-  unfolding readingAt
-  read-faulty e h =
-      let stays = ap (λ (b : Bool). cond b (nextOf file p) p) (ne-eqb (faultAt runFile file p) 0 (λ z. h (e ∙ z))) in
-      λ i. record { number = e i; mark = is i; next = sym stays i }
-
--- what a reading says
-module _ (file : List ℕ) (p : Position) {r : Reading} (e : r ≡ readingAt file p) where
-  pub mark-read : r .mark ≡ markAt file (p .at)
-  unfolding readingAt
-  mark-read = ap (λ (q : Reading). q .mark) e
-
-  pub reads : Read runFile file p (r .number) (r .next)
-  unfolding readingAt
-  reads =
-      let number = ap (λ (q : Reading). q .number) e in
-      record {
-        is = number;
-        onto = λ z.
-            ap (λ (q : Reading). q .next) e
-            ∙ ap (λ (b : Bool). cond b (nextOf file p) p) (eq-eqb (faultAt runFile file p) 0 (sym number ∙ z));
-      }
 
 -- the position past a record is further on, so the records of a run file can be scanned
 further : (file : List ℕ) (p : Position) (m : Mark) → (m ≡ Unknown → ⊥) → p .at < past file p m .at

@@ -10,6 +10,7 @@ use lib.ListN.{length, take, drop}
 use lib.Seq.{take-at}
 use borrow.Author.Tests.{eqb-false, ne-eqb, leb-true, leb-false}
 use Rattle.io.specs.Counts.{Counts}
+use Rattle.semantics.specs.declared.Outcome.{Outcome}
 use Rattle.semantics.specs.declared.Refusal.{Refusal}
 use Rattle.semantics.specs.Refusals.{mostOperations, mostEntries}
 use Rattle.semantics.specs.Run.{Result, over}
@@ -28,10 +29,11 @@ unfolding listed
 run-listed operations out is e = ap (λ (r : Result). handed (listed operations r) out) is ∙ e
 
 -- a refusal, listed with anything
-pub refusal-listed : (number place : ℕ) (operations answers log cells : List ℕ) → (number ≡ 0 → ⊥)
-    → refusalText number place ≡ listing (record { number = number; place = place; done = 0; lost = 0; idle = 0 }) operations answers log cells
+pub refusal-listed : (number place : ℕ) (operations answers log cells : List ℕ) → (number ≡ 0 → ⊥) → {o : Outcome}
+    → o ≡ record { number = number; place = place; done = 0; lost = 0; idle = 0 } → refusalText number place ≡ listing o operations answers log cells
 unfolding listing
-refusal-listed number place operations answers log cells h = rw (ne-eqb number 0 h)
+refusal-listed number place operations answers log cells h is =
+    subst (λ (o : Outcome). refusalText number place ≡ listing o operations answers log cells) (sym is) (rw (ne-eqb number 0 h))
 
 take-over : (written old : List ℕ) → take (length written) (over written old) ≡ written
 unfolding over

@@ -8,9 +8,9 @@ ghost use Rattle.semantics.specs.Run.{runResult};
 ghost use Rattle.semantics.specs.Text.{handed};
 ghost use Rattle.semantics.specs.Response.{listed, response};
 use listing::list;
+use outcome::refused;
 use run::run;
 use runfile::load;
-use semantics::Outcome;
 use semantics::Written;
 
 // Makes a run and writes its text.
@@ -55,12 +55,6 @@ pub fn report(file: &[u8], out: &mut [u8]) -> Written
             out,
         );
     }
-    let refused = Outcome {
-        number: loaded.number,
-        place: loaded.place,
-        done: 0,
-        lost: 0,
-        idle: 0,
-    };
-    list(refused, &operations, &answers, &log, &cells, out)
+    let turned_away = refused(loaded.number, loaded.place);
+    list(turned_away, &operations, &answers, &log, &cells, out)
 }

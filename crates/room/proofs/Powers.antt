@@ -1,14 +1,15 @@
--- Powers of two, told by the ones and the trailing zeros of a number.
+-- Powers of two, told by the ones and the trailing zeros of a number, and as numbers of cells.
 -- Assumes nothing.
-use mathlib.Core.Path.{_≡_, refl, sym}
-use Prim.Native.Nat.{ℕ, zero, suc, _+_, _*_, _/_, _%_, _^_, _<_, zero-le}
-use native.Mathlib.Nat.{add-zero, add-suc, suc-add, pow-suc}
+use mathlib.Core.Path.{_≡_, refl, sym, ap, subst, _∙_}
+use Prim.Native.Nat.{ℕ, zero, suc, _+_, _-_, _*_, _/_, _%_, _^_, _<_, zero-le}
+use native.Mathlib.Nat.{add-zero, add-suc, suc-add, mul-comm, mul-div-cancel, mul-div-mul-right, pow-suc}
 use native.Mathlib.Omega.{arith}
-use lib.Dec.{ltb, leb·suc-suc}
-use lib.Pow.{pow-pos, pow-lt}
+use lib.Dec.{T, ltb, leb·suc-suc}
+use lib.Pow.{pow-add, pow-pos, pow-lt}
 use lib.Count.{ones, trailingZeros, under, ones-step, ones-cat, ones-le}
 use borrow.Author.Tests.{eq-eqb, ne-eqb, lt-ltb, le-ltb}
-use Rattle.semantics.specs.Words.{isPowerFrom}
+use Rattle.semantics.specs.Words.{isPowerFrom, sizeAllowed, homeIn}
+use Rattle.semantics.proofs.Narrow.{power}
 
 -- a power has one bit set
 pub ones-pow : (t : ℕ) → ones (2 ^ t) ≡ 1
@@ -40,3 +41,17 @@ at-power k (suc n) zero = rw (add-zero k, eq-eqb (2 ^ k) (2 ^ k) refl) (sym (lt-
 at-power k (suc n) (suc d) =
     let above : 2 ^ k < 2 ^ (k + suc d) = pow-lt (omega arith) in
     rw (ne-eqb (2 ^ (k + suc d)) (2 ^ k) (λ q. omega arith), add-suc k d, ← suc-add k d, at-power (suc k) n d, leb·suc-suc (suc d) n)
+
+-- sixteen bits scaled to 2 ^ j are shared out over as many cells
+scaled : (j r x : ℕ) → j + r ≡ 16 → x * 2 ^ j / 65536 ≡ x / (65536 / 2 ^ j)
+scaled j r x e =
+    let whole : 65536 ≡ 2 ^ r * 2 ^ j = ap (λ n. 2 ^ n) (sym e) ∙ pow-add 2 j r ∙ mul-comm (2 ^ j) (2 ^ r) in
+    let part : 65536 / 2 ^ j ≡ 2 ^ r = ap (λ n. n / 2 ^ j) whole ∙ mul-div-cancel (2 ^ r) (pow-pos j) in
+    ap (λ n. x * 2 ^ j / n) whole ∙ mul-div-mul-right x (2 ^ r) (pow-pos j) ∙ ap (λ n. x / n) (sym part)
+
+pub home-is : (c k : ℕ) → T (sizeAllowed c) → k * 40503 % 65536 * c / 65536 ≡ homeIn c k
+unfolding sizeAllowed homeIn
+home-is c k h =
+    let p = power 3 10 c h in
+    let x = k * 40503 % 65536 in
+    subst (λ n. x * n / 65536 ≡ x / (65536 / n)) (sym (p .is)) (scaled (p .exponent) (16 - p .exponent) x (omega (arith, p .low, p .high)))

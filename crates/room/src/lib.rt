@@ -27,26 +27,24 @@ pub fn size_allowed(c: usize) -> bool
     is_power_from(3, 10, c)
 }
 
-// The home of a key in a table whose cells have each this share, 65,536 / c, of the 65,536 hashes: a
-// loop finds the share once. A share of 0 is no table's; by 0 a quotient is 0 in the definitions.
-pub fn home(key: u16, share: u32) -> u32
-    ensures { λ r. ⌜ r ≡ key * 40503 % 65536 / share ⌝ }
+// A key's hash, one of 65,536, scaled to c cells: where the size is allowed, the key's home. No quotient
+// by another number than 65,536 is taken, and none by 0.
+pub fn home(key: u16, c: u32) -> u32
+    ensures { λ r. ⌜ r ≡ key * 40503 % 65536 * c / 65536 ⌝ }
 {
-    if share == 0 {
-        return 0;
-    }
-    (key as u32) * 40503 % 65536 / share
+    let hash = (key as u64) * 40503 % 65536;
+    (hash * (c as u64) / 65536) as u32
 }
 
 // For the load module: the home of a key in c cells, or 65,535 where c or the key is not allowed.
-// Both are judged first, so the key has sixteen bits and no divisor is 0.
+// Both are judged first, so the key has sixteen bits.
 #[no_mangle]
 pub extern "C" fn room_home(key: u32, c: u32) -> u32
     ensures { λ r. ⌜ r ≡ roomHome key c ⌝ }
 {
     if size_allowed(c as usize) {
         if is_live(key) {
-            return home(key as u16, 65536 / c);
+            return home(key as u16, c);
         }
     }
     65535

@@ -44,15 +44,17 @@ rule-none n a b d e f c o t = ap (λ (z : Bool). ruleIf z c o t) none
         let (low, high) = both (ltb 0 n) (ltb n 6) (true-T _ h) in
         omega (arith, ltb→lt 0 n low, ltb→lt n 6 high))
 
+-- the rule of an operation whose kind is one of the five, or is not
+pub rule-if : (c operation t : ℕ) {rule : Rule} → rule ≡ ruleOf c operation t → {b : Bool} → isKind (kindBits operation) ≡ b
+    → rule ≡ ruleIf b c (decodeOperation operation) t
+unfolding ruleOf
+rule-if c operation t is same = is ∙ ap (λ (z : Bool). ruleIf z c (decodeOperation operation) t) same
+
 -- a rule is known where the number is a kind's
-pub known-is : (c operation t : ℕ) {rule : Rule} → rule ≡ ruleOf c operation t → (b : Bool) → rule .known ≡ b
-    → (isKind (kindBits operation) ≡ b) × (rule ≡ ruleIf b c (decodeOperation operation) t)
+pub known-is : (c operation t : ℕ) {rule : Rule} → rule ≡ ruleOf c operation t → {b : Bool} → rule .known ≡ b → isKind (kindBits operation) ≡ b
 unfolding ruleOf ruleIf
-known-is c operation t {rule} is b q = (same, is ∙ ap (λ (z : Bool). ruleIf z c (decodeOperation operation) t) same)
+known-is c operation t {rule} is q = sym (known (isKind (kindBits operation))) ∙ sym (ap (λ r. r .known) is) ∙ q
   where
     known : (z : Bool) → ruleIf z c (decodeOperation operation) t .known ≡ z
     known true = refl
     known false = refl
-
-    same : isKind (kindBits operation) ≡ b
-    same = sym (known (isKind (kindBits operation))) ∙ sym (ap (λ r. r .known) is) ∙ q

@@ -3,15 +3,15 @@
 ghost use mathlib.Core.Path.{_≡_};
 ghost use mathlib.Core.Bool.{true};
 ghost use Prim.Native.Nat.{ℕ, _+_, _*_};
-ghost use Rattle.semantics.specs.Words.{totalBits};
+ghost use Rattle.semantics.specs.Words.{totalBits, kindBits, isKind};
 ghost use Rattle.rule.specs.Rule.{ruleOf};
+use operation::operation_amount;
+use operation::operation_key;
+use operation::operation_kind;
 use room::room_sum;
 use word::answer_word;
 use word::cell_total;
 use word::cell_word;
-use word::operation_amount;
-use word::operation_key;
-use word::operation_kind;
 
 // What a kind of operation does: whether it makes a missing key; and where its key has a total,
 // whether it finishes at the read, the word that its swap stores, and what it answers.
@@ -31,6 +31,14 @@ const PRESENT: u8 = 3;
 const CHANGED: u8 = 4;
 
 const REMOVED: u8 = 5;
+
+// Whether an operation's kind is one of the five: rule_of knows its rule.
+pub fn is_known(operation: u64) -> bool
+    ensures { λ r. ⌜ r ≡ isKind (kindBits operation) ⌝ }
+{
+    let kind = operation_kind(operation);
+    0 < kind && kind < 6
+}
 
 // The read rule and the new word of a kind, where the operation's key has the total of a word; any
 // other number than a kind's is refused. The rule is the same in a table of any size.

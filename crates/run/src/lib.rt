@@ -2,26 +2,19 @@
 // judged first, and only then is anything written; each entry then takes one step of the operation
 // that it names, or is idle.
 ghost use mathlib.Core.Path.{_≡_};
-ghost use lib.Count.{ones};
 ghost use lib.ListN.{take};
 ghost use Rattle.semantics.specs.Run.{machine, refusalOf, acceptedResult, runResult, LinearizableWords, TotalsWords};
 use advance::take_step;
 use begin::begin;
+use clear::clear;
+use outcome::made;
+use outcome::refused;
 use semantics::Outcome;
 use sets::has;
 use sets::size;
 use sets::with;
 use step::Event;
 use validate::validate;
-use word::clear;
-
-// What the entries come to beside the slices: which operations have finished, how many swaps were
-// lost and how many entries were idle.
-struct Ran {
-    finished: u64,
-    lost: usize,
-    idle: usize,
-}
 
 // Takes the schedule's entries in turn, on a call that is not turned away.
 fn entries(
@@ -30,11 +23,11 @@ fn entries(
     schedule: &[u8],
     answers: &mut [u32],
     log: &mut [u8],
-) -> Ran
+) -> Outcome
     requires { ⌜ refusalOf (now cells) (now operations) (now schedule) (now answers) (now log) .number ≡ 0 ⌝ }
     ensures { λ r. ⌜ acceptedResult (machine (now (cells .entry)) (now (operations .entry)) (now (schedule .entry))) (now (answers .entry)) (now (log .entry))
         ≡ record {
-          outcome = record { number = 0; place = 0; done = ones (r .finished); lost = r .lost; idle = r .idle };
+          outcome = r;
           cells = now (cells .exit);
           answers = now (answers .exit);
           log = now (log .exit);
@@ -75,11 +68,7 @@ fn entries(
             }
         }
     }
-    Ran {
-        finished: finished,
-        lost: lost,
-        idle: idle,
-    }
+    made(finished, lost, idle)
 }
 
 // Runs a schedule: the operations that its entries name take one atomic step each, on the cells.
@@ -103,20 +92,7 @@ pub fn run(
 {
     let refusal = validate(cells, operations, schedule, answers.len(), log.len());
     if refusal.number == 0 {
-        let ran = entries(cells, operations, schedule, answers, log);
-        return Outcome {
-            number: 0,
-            place: 0,
-            done: size(ran.finished),
-            lost: ran.lost,
-            idle: ran.idle,
-        };
+        return entries(cells, operations, schedule, answers, log);
     }
-    Outcome {
-        number: refusal.number,
-        place: refusal.place,
-        done: 0,
-        lost: 0,
-        idle: 0,
-    }
+    refused(refusal.number, refusal.place)
 }

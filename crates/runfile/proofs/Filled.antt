@@ -14,16 +14,13 @@ use Rattle.semantics.specs.declared.Mark.{Mark}
 use Rattle.semantics.specs.declared.Mark.the-variants.{Table, Cell, Operation, Schedule, Unknown}
 use Rattle.semantics.specs.declared.Position.{Position}
 use Rattle.semantics.specs.Run.{over}
-use Rattle.semantics.specs.Records.{records}
-use Rattle.semantics.specs.RunFile.{Contents, byteAt, pairAt, cellWordAt, operationWordAt, entriesAt, partOf, mayFollow, sizeOf, past, start, runFile, loaded, load, contents, acceptedReading}
+use Rattle.semantics.specs.Records.{faultAt, records}
+use Rattle.semantics.specs.RunFile.{Contents, byteAt, pairAt, cellWordAt, operationWordAt, entriesAt, markAt, partOf, mayFollow, sizeOf, past, nextOf, start, runFile, loaded, load, contents, acceptedReading}
 use Rattle.semantics.proofs.Over.{over-none, over-length, over-set, over-next, over-more}
 use Rattle.semantics.proofs.Records.{Folding, judgement, scan-less, fold-starts, fold-sound, fold-goes-on, fold-ends}
-use Rattle.record.specs.declared.Reading.{Reading}
-use Rattle.record.specs.Reads.{readingAt}
-use Rattle.record.proofs.Judged.{Sound, scannable, exponent, inside, few, short, mark-read, reads}
+use Rattle.record.proofs.Judged.{Sound, sound, scannable, exponent, inside, few, short}
 use Rattle.io.specs.Counts.{Counts}
 use Rattle.runfile.specs.Stored.{stored}
-use Rattle.runfile.proofs.Stores.{read-sound, next-past}
 
 -- the slices are long enough
 abbrev pub Room : Contents → Type 0
@@ -162,46 +159,46 @@ filling-starts file s₀ {p} e =
           });
     }
 
-module _ {file : List ℕ} {s₀ : Contents} {p : Position} {s : Contents} (f : Filling file s₀ p s) (room : Room s₀)
-    (accepted : judgement runFile file (records runFile file start) .number ≡ 0) {r : Reading} (e : r ≡ readingAt file p) where
-  pub filling-sound : r .number ≡ 0
-  filling-sound = fold-sound (scannable file) (reads file p e) (f .folding) accepted
+module _ {file : List ℕ} {s₀ : Contents} {p : Position} {s : Contents} (f : Filling file s₀ p s)
+    (accepted : judgement runFile file (records runFile file start) .number ≡ 0) where
+  pub filling-sound : faultAt runFile file p ≡ 0
+  filling-sound = fold-sound (f .folding) accepted
 
-  pub filling-less : length file - r .next .at < length file - p .at
-  filling-less = scan-less (scannable file) (reads file p e) filling-sound
+  module _ (room : Room s₀) {q : Position} (past : q ≡ nextOf file p) where
+    pub filling-less : length file - q .at < length file - p .at
+    filling-less = scan-less (scannable file) filling-sound past
 
-  module _ {s′ : Contents} (stores : stored file p (r .mark) s ≡ s′) where
-    pub turned : Holds s₀ (r .next) (load file (f .so-far) p) s′
-    unfolding load
-    turned =
-        subst (Holds s₀ (r .next) (load file (f .so-far) p)) stores
-        (subst (λ q. Holds s₀ q (load file (f .so-far) p) (stored file p (r .mark) s)) (sym (next-past file p e filling-sound))
-        (subst (λ h. Holds s₀ (past file p (r .mark)) h (stored file p (r .mark) s)) (ap (λ m. loaded file (p .at) m (f .so-far)) (mark-read file p e))
-        (holds-next room (f .holds) file (r .mark) (read-sound file p e filling-sound))))
+    module _ {s′ : Contents} (stores : stored file p (markAt file (p .at)) s ≡ s′) where
+      pub turned : Holds s₀ q (load file (f .so-far) p) s′
+      unfolding load nextOf
+      turned =
+          subst (Holds s₀ q (load file (f .so-far) p)) stores
+          (subst (λ n. Holds s₀ n (load file (f .so-far) p) (stored file p (markAt file (p .at)) s)) (sym past)
+          (holds-next room (f .holds) file (markAt file (p .at)) (sound file p refl filling-sound)))
 
-    pub filling-again : r .next .at < length file → Filling file s₀ (r .next) s′
-    filling-again b =
-        record {
-          so-far = load file (f .so-far) p;
-          folding = fold-goes-on (scannable file) (reads file p e) (f .folding) accepted b;
-          holds = turned;
-        }
+      pub filling-again : q .at < length file → Filling file s₀ q s′
+      filling-again b =
+          record {
+            so-far = load file (f .so-far) p;
+            folding = fold-goes-on (scannable file) filling-sound past (f .folding) b;
+            holds = turned;
+          }
 
-    pub filling-ends : length file ≤ r .next .at
-        → acceptedReading (contents file) (s₀ .cells) (s₀ .operations) (s₀ .schedule)
-        ≡ record {
-          loaded = record { number = 0; place = 0; cells = r .next .size; operations = r .next .operations; entries = r .next .entries };
-          cells = s′ .cells;
-          operations = s′ .operations;
-          schedule = s′ .schedule;
-        }
-    unfolding acceptedReading
-    filling-ends b =
-        let end = turned in
-        ap (λ h. acceptedReading h (s₀ .cells) (s₀ .operations) (s₀ .schedule)) (fold-ends (scannable file) (reads file p e) (f .folding) accepted b)
-        ∙ (λ i. record {
-          loaded = record { number = 0; place = 0; cells = end .cells i; operations = end .operations i; entries = end .entries i };
-          cells = sym (end .is) i .cells;
-          operations = sym (end .is) i .operations;
-          schedule = sym (end .is) i .schedule;
-        })
+      pub filling-ends : length file ≤ q .at
+          → acceptedReading (contents file) (s₀ .cells) (s₀ .operations) (s₀ .schedule)
+          ≡ record {
+            loaded = record { number = 0; place = 0; cells = q .size; operations = q .operations; entries = q .entries };
+            cells = s′ .cells;
+            operations = s′ .operations;
+            schedule = s′ .schedule;
+          }
+      unfolding acceptedReading
+      filling-ends b =
+          let end = turned in
+          ap (λ h. acceptedReading h (s₀ .cells) (s₀ .operations) (s₀ .schedule)) (fold-ends (scannable file) filling-sound past (f .folding) b)
+          ∙ (λ i. record {
+            loaded = record { number = 0; place = 0; cells = end .cells i; operations = end .operations i; entries = end .entries i };
+            cells = sym (end .is) i .cells;
+            operations = sym (end .is) i .operations;
+            schedule = sym (end .is) i .schedule;
+          })

@@ -1,3 +1,4 @@
 pub mod Refused
+pub mod Onward
 pub mod Stores
 pub mod Filled

@@ -8,10 +8,9 @@ use Rattle.semantics.specs.declared.Mark.{Mark}
 use Rattle.semantics.specs.declared.Mark.the-variants.{Table, Cell, Operation, Schedule, Unknown}
 use Rattle.semantics.specs.declared.Position.{Position}
 use Rattle.semantics.specs.Refusals.{mostOperations, mostEntries}
+use Rattle.semantics.specs.Records.{faultAt}
 use Rattle.semantics.specs.Run.{over}
-use Rattle.semantics.specs.RunFile.{Contents, byteAt, pairAt, cellWordAt, operationWordAt, entriesAt, mostCells}
-use Rattle.record.specs.declared.Reading.{Reading}
-use Rattle.record.specs.Reads.{readingAt}
+use Rattle.semantics.specs.RunFile.{Contents, byteAt, pairAt, cellWordAt, operationWordAt, entriesAt, mostCells, nextOf, runFile}
 
 -- the slices' contents after the record at p: an operation and entries stand behind those that came before
 unfoldable pub stored : List ℕ → Position → Mark → Contents → Contents
@@ -37,10 +36,10 @@ stored file p Schedule s =
     }
 stored file p Unknown s = s
 
--- what storing a record asks: it was read and is not turned away, and the slices have room for the most that a file may hold
-pub record Storable (file : List ℕ) (p : Position) (r : Reading) (c n e : List ℕ) : Type 0 where
-  pub read : r ≡ readingAt file p
-  pub sound : r .number ≡ 0
+-- what storing the record at p asks: it is not turned away, q is the position past it, and the slices have room for the most that a file may hold
+pub record Storable (file : List ℕ) (p q : Position) (c n e : List ℕ) : Type 0 where
+  pub sound : faultAt runFile file p ≡ 0
+  pub past : q ≡ nextOf file p
   pub size : p .size ≤ mostCells
   pub cells : mostCells ≤ length c
   pub operations : mostOperations ≤ length n

@@ -1,27 +1,27 @@
 // The reader of run files (document 01, "The run file" and "Where a call is turned away"). A file is
 // judged whole before anything is written, so that a fault in its last record leaves every slice as
-// it was; both passes read the records by the same function.
+// it was; the second pass judges nothing, and both go from record to record by the same function.
 ghost use mathlib.Core.Path.{_≡_};
 ghost use Prim.Native.Nat.{_+_, _≤_};
 ghost use lib.ListN.{length};
 ghost use Rattle.io.specs.Counts.{Counts};
 ghost use Rattle.semantics.specs.Refusals.{firstMet};
-ghost use Rattle.semantics.specs.Records.{records, recordConditions};
+ghost use Rattle.semantics.specs.Records.{faultAt, records, recordConditions};
 ghost use Rattle.semantics.specs.Run.{over};
-ghost use Rattle.semantics.specs.RunFile.{cellWordAt, operationWordAt, start, runFile, readerRefusal, contents, acceptedReading, reading};
+ghost use Rattle.semantics.specs.RunFile.{markAt, cellWordAt, operationWordAt, nextOf, start, runFile, readerRefusal, contents, acceptedReading, reading};
 ghost use Rattle.runfile.specs.Stored.{stored, Storable};
+use clear::clear;
 use mark::byte_at;
+use mark::mark_at;
 use mark::pair_at;
-use record::Reading;
-use record::read;
+use operation::operation_word;
+use record::fault_at;
 use record::start;
 use semantics::Loaded;
 use semantics::Mark;
 use semantics::Position;
 use semantics::Refusal;
 use word::cell_word;
-use word::clear;
-use word::operation_word;
 
 // The limits of document 01: "lent slices for at least 4,096 cells, 64 rows and 16,384 entries", and
 // a file of at most 65,535 bytes.
@@ -33,20 +33,82 @@ const MOST_ENTRIES: usize = 16384;
 
 const MOST_BYTES: usize = 65535;
 
+// What stands in a record that is whole: its mark, the word of the cell that a CL record names, and of
+// the operation that an OP record holds. What is read is lent at its known size, so that no offset is
+// tested again.
+fn mark_of(file: &[u8], at: usize) -> Mark
+    requires { ⌜ at + 2 ≤ length (now file) ⌝ }
+    ensures { λ r. ⌜ r ≡ markAt (now (file .entry)) at ⌝ }
+{
+    mark_at(&file[at..at + 2], 0)
+}
+
+fn cell_at(file: &[u8], at: usize) -> u32
+    requires { ⌜ at + 8 ≤ length (now file) ⌝ }
+    ensures { λ r. ⌜ r ≡ cellWordAt (now (file .entry)) at ⌝ }
+{
+    let record = &file[at..at + 8];
+    cell_word(pair_at(record, 4), pair_at(record, 6))
+}
+
+fn operation_at(file: &[u8], at: usize) -> u64
+    requires { ⌜ at + 7 ≤ length (now file) ⌝ }
+    ensures { λ r. ⌜ r ≡ operationWordAt (now (file .entry)) at ⌝ }
+{
+    let record = &file[at..at + 7];
+    operation_word(byte_at(record, 2), pair_at(record, 3), pair_at(record, 5))
+}
+
+// The position past a record that is not turned away. The byte behind the mark is a TB record's k, and
+// an SC record's count.
+fn past(file: &[u8], position: Position) -> Position
+    requires { ⌜ faultAt runFile (now file) position ≡ 0 ⌝ }
+    ensures { λ r. ⌜ r ≡ nextOf (now (file .entry)) position ⌝ }
+{
+    let mut next = position;
+    let at = position.at;
+    let mark = mark_of(file, at);
+    let first = file[at + 2] as usize;
+    match mark {
+        Mark::Table => {
+            next.at = at + 3;
+            next.part = 1;
+            next.size = 1 << first;
+        }
+        Mark::Cell => {
+            next.at = at + 8;
+            next.part = 2;
+            next.lowest = (pair_at(&file[at..at + 8], 2) as usize) + 1;
+        }
+        Mark::Operation => {
+            next.at = at + 7;
+            next.part = 3;
+            next.operations = position.operations + 1;
+        }
+        Mark::Schedule => {
+            next.at = at + (3 + first);
+            next.part = 4;
+            next.entries = position.entries + first;
+        }
+        Mark::Unknown => {}
+    }
+    next
+}
+
 // The first faulty record of a file, and why it is turned away; number 0 and place 0 for none.
 fn judge(file: &[u8]) -> Refusal
     ensures { λ r. ⌜ r ≡ firstMet (recordConditions runFile (now (file .entry)) (records runFile (now (file .entry)) start)) ⌝ }
 {
     let mut position = start();
     loop {
-        let reading = read(file, position);
-        if reading.number != 0 {
+        let number = fault_at(file, position);
+        if number != 0 {
             return Refusal {
-                number: reading.number,
+                number: number,
                 place: position.at,
             };
         }
-        position = reading.next;
+        position = past(file, position);
         if file.len() <= position.at {
             return Refusal {
                 number: 0,
@@ -94,49 +156,30 @@ fn copy(from: &[u8], to: &mut [u8])
     }
 }
 
-// The word of the cell that a CL record names, and of the operation that an OP record holds.
-fn cell_at(file: &[u8], at: usize) -> u32
-    requires { ⌜ at + 8 ≤ length (now file) ⌝ }
-    ensures { λ r. ⌜ r ≡ cellWordAt (now (file .entry)) at ⌝ }
-{
-    cell_word(pair_at(file, at + 4), pair_at(file, at + 6))
-}
-
-fn operation_at(file: &[u8], at: usize) -> u64
-    requires { ⌜ at + 7 ≤ length (now file) ⌝ }
-    ensures { λ r. ⌜ r ≡ operationWordAt (now (file .entry)) at ⌝ }
-{
-    operation_word(
-        byte_at(file, at + 2),
-        pair_at(file, at + 3),
-        pair_at(file, at + 5),
-    )
-}
-
-// Writes what one record of an accepted file holds: the cells of a table, all empty; one cell; one
-// operation; or some entries. The position says how many operations and entries stand already.
+// Writes what one record of an accepted file holds: the cells of a table, all empty; one cell, which is
+// the one below those that may follow; one operation; or some entries, up to the next record. The
+// position says how many operations and entries stand already.
 fn store(
     file: &[u8],
     position: Position,
-    reading: Reading,
+    next: Position,
     cells: &mut [u32],
     operations: &mut [u64],
     schedule: &mut [u8],
 )
-    requires { ⌜ Storable (now file) position reading (now cells) (now operations) (now schedule) ⌝ }
-    ensures { λ _. ⌜ stored (now (file .entry)) position (reading .mark) (record { cells = now (cells .entry); operations = now (operations .entry); schedule = now (schedule .entry) })
+    requires { ⌜ Storable (now file) position next (now cells) (now operations) (now schedule) ⌝ }
+    ensures { λ _. ⌜ stored (now (file .entry)) position (markAt (now (file .entry)) (position .at)) (record { cells = now (cells .entry); operations = now (operations .entry); schedule = now (schedule .entry) })
         ≡ record { cells = now (cells .exit); operations = now (operations .exit); schedule = now (schedule .exit) } ⌝ }
 {
     let at = position.at;
-    let mark = reading.mark;
+    let mark = mark_of(file, at);
     match mark {
         Mark::Table => {
-            let next = reading.next;
             let size = next.size;
             clear(&mut cells[..size]);
         }
         Mark::Cell => {
-            let cell = pair_at(file, at + 2) as usize;
+            let cell = next.lowest - 1;
             cells[cell] = cell_at(file, at);
         }
         Mark::Operation => {
@@ -145,7 +188,7 @@ fn store(
         }
         Mark::Schedule => {
             let first = at + 3;
-            let end = first + (byte_at(file, at + 2) as usize);
+            let end = next.at;
             let done = position.entries;
             copy(&file[first..end], &mut schedule[done..]);
         }
@@ -167,9 +210,9 @@ fn fill(file: &[u8], cells: &mut [u32], operations: &mut [u64], schedule: &mut [
 {
     let mut position = start();
     loop {
-        let reading = read(file, position);
-        store(file, position, reading, cells, operations, schedule);
-        position = reading.next;
+        let next = past(file, position);
+        store(file, position, next, cells, operations, schedule);
+        position = next;
         if file.len() <= position.at {
             return position;
         }

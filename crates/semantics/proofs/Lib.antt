@@ -13,7 +13,9 @@ pub mod Narrow
 pub mod Words
 pub mod Start
 pub mod Records
+pub mod Parts
 pub mod RunPacks
 pub mod WordsHold
+pub mod Lengths
 pub mod Bounded
 pub mod Cases

@@ -5,7 +5,6 @@ use mathlib.Core.Path.{_≡_, refl, sym, ap, subst, _∙_}
 use Prim.Native.Nat.{ℕ, zero, suc, _+_, _-_, _≤_, _<_}
 use mathlib.Core.Bool.{Bool, true, false, and-false}
 use mathlib.Core.List.{List, [], _∷_}
-use native.Mathlib.Decide.{ℕ-discrete}
 use native.Mathlib.Omega.{arith}
 use lib.ListN.{length}
 use borrow.Author.Tests.{eq-eqb, ne-eqb, lt-ltb, le-ltb}
@@ -33,11 +32,6 @@ pub record Left (F : Format) (file : List ℕ) {A : Type 0} (of : List (F .Place
 abbrev pub judgement : (F : Format) → List ℕ → List (F .Place) → Refusal
 judgement F file ps = firstMet (recordConditions F file ps)
 
--- what a reader says of the record at p: the number of the condition that turns it away, and the place past one that none does
-pub record Read (F : Format) (file : List ℕ) (p : F .Place) (number : ℕ) (q : F .Place) : Type 0 where
-  pub is : number ≡ faultAt F file p
-  pub onto : number ≡ 0 → q ≡ F .next file p
-
 -- folding over the records of an accepted file: h has come of those before p
 pub record Folding (F : Format) (file : List ℕ) {B : Type 0} (f : B → F .Place → B) (refusal : Refusal) (result : B) (p : F .Place) (h : B) : Type 0 where
   pub judging : Left F file (judgement F file) refusal p
@@ -62,85 +56,82 @@ module _ (F : Format) (file : List ℕ) where
   unfolding recordsFrom
   more n p e = ap (λ (b : Bool). p ∷ elim b [ true ↦ recordsFrom F file n (F .next file p) | false ↦ [] ]) e
 
--- a turn of a loop that reads the record at p and goes on to q, or ends
-module _ {F : Format} {file : List ℕ} (ok : Scannable F file) {p : F .Place} {n : ℕ} {q : F .Place} (t : Read F file p n q) where
-  passed : n ≡ 0 → faultAt F file p ≡ 0
-  passed z = sym (t .is) ∙ z
+-- a turn of a loop over records
+module _ {F : Format} {file : List ℕ} (ok : Scannable F file) {p : F .Place} where
+  -- past a record that no condition turns away, on to q
+  module _ (sound : faultAt F file p ≡ 0) {q : F .Place} (past : q ≡ F .next file p) where
+    moved : F .offset q ≡ F .offset (F .next file p)
+    moved = ap (F .offset) past
 
-  moved : n ≡ 0 → F .offset q ≡ F .offset (F .next file p)
-  moved z = ap (F .offset) (t .onto z)
+    -- less is left of the file
+    pub scan-less : length file - F .offset q < length file - F .offset p
+    scan-less = omega (arith, moved, ok .within p sound, ok .onward p sound)
 
-  -- less is left of the file
-  pub scan-less : n ≡ 0 → length file - F .offset q < length file - F .offset p
-  scan-less z = omega (arith, moved z, ok .within p (passed z), ok .onward p (passed z))
+    module _ {A : Type 0} {of : List (F .Place) → A} {result : A} (l : Left F file of result p) where
+      scan-goes-on : F .offset q < length file → (of′ : List (F .Place) → A) → ((ps : List (F .Place)) → of (p ∷ ps) ≡ of′ ps)
+          → Left F file of′ result q
+      unfolding goesOn
+      scan-goes-on b of′ turn = subst (Left F file of′ result) (sym past) (go (l .fuel) (l .enough) (l .rest))
+        where
+          on : goesOn F file p ≡ true
+          on = rw (eq-eqb (faultAt F file p) 0 sound, lt-ltb (F .offset (F .next file p)) (length file) (omega (arith, moved)))
 
-  module _ {A : Type 0} {of : List (F .Place) → A} {result : A} (l : Left F file of result p) where
-    scan-goes-on : n ≡ 0 → F .offset q < length file → (of′ : List (F .Place) → A) → ((ps : List (F .Place)) → of (p ∷ ps) ≡ of′ ps)
-        → Left F file of′ result q
-    unfolding goesOn
-    scan-goes-on z b of′ turn = subst (Left F file of′ result) (sym (t .onto z)) (go (l .fuel) (l .enough) (l .rest))
-      where
-        on : goesOn F file p ≡ true
-        on = rw (eq-eqb (faultAt F file p) 0 (passed z), lt-ltb (F .offset (F .next file p)) (length file) (omega (arith, moved z)))
+          go : (k : ℕ) → length file ≤ k + F .offset p → result ≡ of (recordsFrom F file (suc k) p) → Left F file of′ result (F .next file p)
+          go zero h r = absurd (omega (arith, ok .within p sound))
+          go (suc k) h r =
+              record {
+                fuel = k;
+                enough = omega (arith, ok .onward p sound);
+                rest = r ∙ ap of (more F file (suc k) p on) ∙ turn (recordsFrom F file (suc k) (F .next file p));
+              }
 
-        go : (k : ℕ) → length file ≤ k + F .offset p → result ≡ of (recordsFrom F file (suc k) p) → Left F file of′ result (F .next file p)
-        go zero h r = absurd (omega (arith, ok .within p (passed z)))
-        go (suc k) h r =
-            record {
-              fuel = k;
-              enough = omega (arith, ok .onward p (passed z));
-              rest = r ∙ ap of (more F file (suc k) p on) ∙ turn (recordsFrom F file (suc k) (F .next file p));
-            }
+      scan-ends : length file ≤ F .offset q → result ≡ of (p ∷ [])
+      unfolding goesOn
+      scan-ends b =
+          l .rest ∙ ap of (last F file (l .fuel) p (rw (le-ltb (F .offset (F .next file p)) (length file) (omega (arith, moved)), and-false)))
 
-    scan-ends : (n ≡ 0 → length file ≤ F .offset q) → result ≡ of (p ∷ [])
-    unfolding goesOn
-    scan-ends h = l .rest ∙ ap of (last F file (l .fuel) p (elim (ℕ-discrete n 0) [ yes z ↦ ended z | no z ↦ faulty z ]))
-      where
-        ended : n ≡ 0 → goesOn F file p ≡ false
-        ended z = rw (le-ltb (F .offset (F .next file p)) (length file) (omega (arith, moved z, h z)), and-false)
+    -- judging: the later ones decide
+    judged-later : (ps : List (F .Place)) → judgement F file (p ∷ ps) ≡ judgement F file ps
+    unfolding recordConditions faultAt
+    judged-later ps = met-late (F .conditions file p) (recordConditions F file ps) (none-met (F .conditions file p) (ok .positive p) sound)
 
-        faulty : (n ≡ 0 → ⊥) → goesOn F file p ≡ false
-        faulty z = rw (ne-eqb (faultAt F file p) 0 (λ e. z (t .is ∙ e)))
+    module _ {refusal : Refusal} (l : Left F file (judgement F file) refusal p) where
+      pub judge-goes-on : F .offset q < length file → Left F file (judgement F file) refusal q
+      judge-goes-on b = scan-goes-on l b (judgement F file) judged-later
 
-  -- judging: a record that no condition turns away lets the later ones decide, and another one decides
-  judged-later : n ≡ 0 → (ps : List (F .Place)) → judgement F file (p ∷ ps) ≡ judgement F file ps
-  unfolding recordConditions faultAt
-  judged-later z ps = met-late (F .conditions file p) (recordConditions F file ps) (none-met (F .conditions file p) (ok .positive p) (passed z))
+      pub judge-ends : length file ≤ F .offset q → record { number = 0; place = 0 } ≡ refusal
+      unfolding recordConditions
+      judge-ends b = sym (scan-ends l b ∙ judged-later [] ∙ met-none)
 
-  judged-here : (n ≡ 0 → ⊥) → (ps : List (F .Place)) → judgement F file (p ∷ ps) ≡ record { number = n; place = F .offset p }
-  unfolding recordConditions faultAt
-  judged-here z ps =
-      let h : firstMet (F .conditions file p) .number ≡ 0 → ⊥ = λ e. z (t .is ∙ e) in
-      met-early (F .conditions file p) (recordConditions F file ps) h
+    module _ {B : Type 0} {f : B → F .Place → B} {refusal : Refusal} {result : B} {h : B} (s : Folding F file f refusal result p h) where
+      pub fold-goes-on : F .offset q < length file → Folding F file f refusal result q (f h p)
+      unfolding foldl
+      fold-goes-on b =
+          record {
+            judging = judge-goes-on (s .judging) b;
+            folding = scan-goes-on (s .folding) b (foldl f (f h p)) (λ ps. refl);
+          }
+
+      pub fold-ends : length file ≤ F .offset q → result ≡ f h p
+      unfolding foldl
+      fold-ends b = scan-ends (s .folding) b
+
+  -- a record that some condition turns away decides
+  pub judge-faulty : {refusal : Refusal} → Left F file (judgement F file) refusal p → {n : ℕ} → n ≡ faultAt F file p → (n ≡ 0 → ⊥)
+      → record { number = n; place = F .offset p } ≡ refusal
+  unfolding goesOn recordConditions faultAt
+  judge-faulty l is z =
+      let h : firstMet (F .conditions file p) .number ≡ 0 → ⊥ = λ e. z (is ∙ e) in
+      sym
+      (l .rest
+      ∙ ap (judgement F file) (last F file (l .fuel) p (rw (ne-eqb (firstMet (F .conditions file p) .number) 0 h)))
+      ∙ met-early (F .conditions file p) [] h
       ∙ met-placed (F .offset p) (F .conditions file p) (ok .placed p) h
-      ∙ ap (λ (k : ℕ). record { number = k; place = F .offset p }) (sym (t .is))
+      ∙ ap (λ (k : ℕ). record { number = k; place = F .offset p }) (sym is))
 
-  module _ {refusal : Refusal} (l : Left F file (judgement F file) refusal p) where
-    pub judge-goes-on : n ≡ 0 → F .offset q < length file → Left F file (judgement F file) refusal q
-    judge-goes-on z b = scan-goes-on l z b (judgement F file) (judged-later z)
-
-    pub judge-faulty : (n ≡ 0 → ⊥) → record { number = n; place = F .offset p } ≡ refusal
-    judge-faulty z = sym (scan-ends l (λ e. absurd (z e)) ∙ judged-here z [])
-
-    pub judge-ends : n ≡ 0 → length file ≤ F .offset q → record { number = 0; place = 0 } ≡ refusal
-    unfolding recordConditions
-    judge-ends z b = sym (scan-ends l (λ e. b) ∙ judged-later z [] ∙ met-none)
-
-  -- folding: no record of an accepted file is faulty
-  module _ {B : Type 0} {f : B → F .Place → B} {refusal : Refusal} {result : B} {h : B} (s : Folding F file f refusal result p h)
-      (accepted : refusal .number ≡ 0) where
-    pub fold-sound : n ≡ 0
-    unfolding recordsFrom recordConditions faultAt
-    fold-sound = t .is ∙ early-accepts (F .conditions file p) _ (ap (λ (r : Refusal). r .number) (sym (s .judging .rest)) ∙ accepted)
-
-    pub fold-goes-on : F .offset q < length file → Folding F file f refusal result q (f h p)
-    unfolding foldl
-    fold-goes-on b =
-        record {
-          judging = judge-goes-on (s .judging) fold-sound b;
-          folding = scan-goes-on (s .folding) fold-sound b (foldl f (f h p)) (λ ps. refl);
-        }
-
-    pub fold-ends : length file ≤ F .offset q → result ≡ f h p
-    unfolding foldl
-    fold-ends b = scan-ends (s .folding) (λ e. b)
+-- no record of an accepted file is faulty
+pub fold-sound : {F : Format} {file : List ℕ} {p : F .Place} {B : Type 0} {f : B → F .Place → B} {refusal : Refusal} {result h : B}
+    → Folding F file f refusal result p h → refusal .number ≡ 0 → faultAt F file p ≡ 0
+unfolding recordsFrom recordConditions faultAt
+fold-sound {F} {file} {p} s accepted =
+    early-accepts (F .conditions file p) _ (ap (λ (r : Refusal). r .number) (sym (s .judging .rest)) ∙ accepted)

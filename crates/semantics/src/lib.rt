@@ -31,9 +31,10 @@ pub enum Mark {
 // What a reader of a run file carries from record to record: the offset of the record that follows,
 // the part of the file that the last one belongs to (0 before the first), the number of cells, the
 // lowest cell number that the next CL record may name, and how many operations and entries came so far.
+// All of one width, so that there is no padding, which would be carried from record to record as well.
 pub struct Position {
     pub at: usize,
-    pub part: u8,
+    pub part: usize,
     pub size: usize,
     pub lowest: usize,
     pub operations: usize,

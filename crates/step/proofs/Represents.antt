@@ -27,8 +27,8 @@ use Rattle.step.specs.declared.Progress.{Progress}
 use Rattle.step.specs.declared.Event.{Event}
 use Rattle.step.specs.declared.Event.the-variants.{Passed, Held as WordHeld, Lost, Finished}
 use Rattle.step.specs.declared.Stepped.{Stepped}
-use Rattle.step.specs.Progress.{following, finishing, turned, taken, leftBy, stepTaken}
-use Rattle.step.proofs.Steps.{step-takes}
+use Rattle.step.specs.Progress.{following, finishing, turned, turnEvent, taken, leftBy, stepTaken}
+use Rattle.step.proofs.Steps.{within, step-takes}
 
 -- the event of a turn
 unfoldable pub eventOf : Turn Total → Event
@@ -61,23 +61,30 @@ module _ (c k : ℕ) where
 
   -- a record turns as the state does
   turned-is : 0 < c → (s : Pending Total) (t : Turn Total)
-      → turned c (recordOf (pending s)) (turnOf c k t) ≡ record { progress = recordOf (after (passed S s) t); event = eventOf t }
-  unfolding turned turnOf recordOf after passed eventOf
+      → turned c (recordOf (pending s)) (turnOf c k t) ≡ recordOf (after (passed S s) t)
+  unfolding turned turnOf recordOf after passed
   turned-is size s t = go s t
     where
       moved : (p : ℕ) → record { at = following c (placeOf S k p); passed = p + 1; holds = false; held = 0; answer = 0 } ≡ recordOf (pending (reading (suc p)))
       moved p = let one : p + 1 ≡ suc p = omega arith in λ i. record { at = next-place p size i; passed = one i; holds = false; held = 0; answer = 0 }
 
       go : (s : Pending Total) (t : Turn Total)
-          → turned c (recordOf (pending s)) (turnOf c k t) ≡ record { progress = recordOf (after (passed S s) t); event = eventOf t }
-      go (reading p) passes = λ i. record { progress = moved p i; event = Passed }
+          → turned c (recordOf (pending s)) (turnOf c k t) ≡ recordOf (after (passed S s) t)
+      go (reading p) passes = moved p
       go (reading p) (holds h) = refl
       go (reading p) loses = refl
       go (reading p) (finishes a) = refl
-      go (holding p h) passes = λ i. record { progress = moved p i; event = Passed }
+      go (holding p h) passes = moved p
       go (holding p h) (holds g) = refl
       go (holding p h) loses = refl
       go (holding p h) (finishes a) = refl
+
+  event-is : (t : Turn Total) → turnEvent (turnOf c k t) ≡ eventOf t
+  unfolding turnEvent turnOf eventOf
+  event-is passes = refl
+  event-is (holds h) = refl
+  event-is loses = refl
+  event-is (finishes a) = refl
 
   -- where the record of an unfinished operation stands
   pub record-at : (s : Pending Total) → recordOf (pending s) .at ≡ placeOf S k (passed S s)
@@ -168,8 +175,15 @@ module _ (c operation : ℕ) (known : isKind (kindBits operation) ≡ true) wher
     unfolding leftBy placeOf
     step-is =
         sym (step-takes (map encode cells) operation record-now
+        (within (length (map encode cells)) record-now
         (omega (arith, record-at c (o .key) s, mod-lt (homeIn c (o .key) + passed (narrowSetting c) s) size, words-long))
         (omega (arith, record-passed c (o .key) s stands, words-long))
-        (record-unfinished c (o .key) s)
+        ∙ eq-eqb _ 0 (record-unfinished c (o .key) s))
         taken-here)
-        ∙ (λ i. record { word = encode (stepped .cell); stepped = (ap (λ n. turned n record-now (turnOf c (o .key) (stepped .turn))) words-long ∙ turned-is c (o .key) size s (stepped .turn)) i })
+        ∙ (λ i. record {
+          word = encode (stepped .cell);
+          stepped = record {
+            progress = (ap (λ n. turned n record-now (turnOf c (o .key) (stepped .turn))) words-long ∙ turned-is c (o .key) size s (stepped .turn)) i;
+            event = event-is c (o .key) (stepped .turn) i;
+          };
+        })

@@ -13,6 +13,7 @@ use Rattle.turn.specs.declared.Turn.the-variants.{Pass, Hold, Lose, Finish, Ref
 use Rattle.turn.specs.declared.Taken.{Taken}
 use Rattle.turn.specs.Turn.{readIf, swapIf}
 use Rattle.step.specs.declared.Progress.{Progress}
+use Rattle.step.specs.declared.Event.{Event}
 use Rattle.step.specs.declared.Event.the-variants.{Passed, Held, Lost, Finished, Refused}
 use Rattle.step.specs.declared.Stepped.{Stepped}
 
@@ -37,13 +38,20 @@ losing p = record { at = p .at; passed = p .passed; holds = false; held = 0; ans
 abbrev pub finishing : ℕ → Progress
 finishing a = record { at = 0; passed = 0; holds = false; held = 0; answer = a }
 
--- the record and the event of a turn, in c cells
-unfoldable pub turned : ℕ → Progress → Turn → Stepped
-turned c p Pass = record { progress = passing c p; event = Passed }
-turned c p (Hold w) = record { progress = holding w p; event = Held }
-turned c p Lose = record { progress = losing p; event = Lost }
-turned c p (Finish a) = record { progress = finishing a; event = Finished }
-turned c p Refuse = record { progress = p; event = Refused }
+-- the record after a turn, in c cells, and the event
+unfoldable pub turned : ℕ → Progress → Turn → Progress
+turned c p Pass = passing c p
+turned c p (Hold w) = holding w p
+turned c p Lose = losing p
+turned c p (Finish a) = finishing a
+turned c p Refuse = p
+
+unfoldable pub turnEvent : Turn → Event
+turnEvent Pass = Passed
+turnEvent (Hold w) = Held
+turnEvent Lose = Lost
+turnEvent (Finish a) = Finished
+turnEvent Refuse = Refused
 
 -- what a record that is not finished does at a word
 unfoldable pub taken : ℕ → ℕ → Progress → ℕ → Taken
@@ -61,7 +69,7 @@ pub record Left : Type 0 where
   pub stepped : Stepped
 
 unfoldable pub leftBy : ℕ → Progress → Taken → Left
-leftBy c p t = record { word = t .word; stepped = turned c p (t .turn) }
+leftBy c p t = record { word = t .word; stepped = record { progress = turned c p (t .turn); event = turnEvent (t .turn) } }
 
 unfoldable pub stepTaken : List ℕ → ℕ → Progress → Left
 stepTaken cells operation p =

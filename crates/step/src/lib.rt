@@ -5,7 +5,7 @@
 ghost use mathlib.Core.Path.{_≡_};
 ghost use Prim.Native.Nat.{_<_};
 ghost use lib.ListN.{set};
-ghost use Rattle.step.specs.Progress.{begun, passing, holding, losing, finishing, turned, taken, stepTaken};
+ghost use Rattle.step.specs.Progress.{passing, holding, losing, finishing, turned, turnEvent, taken, isPending, stepTaken};
 use turn::Taken;
 use turn::Turn;
 use turn::look;
@@ -38,17 +38,16 @@ pub struct Stepped {
 }
 
 impl Progress {
-    // Reading at the key's home, with no cell passed.
-    pub fn begin(home: usize) -> Progress
-        ensures { λ r. ⌜ r ≡ begun home ⌝ }
+    // Whether it is the record of an unfinished operation in c cells.
+    fn is_pending(self, c: usize) -> bool
+        ensures { λ r. ⌜ r ≡ isPending c self ⌝ }
     {
-        Progress {
-            at: home,
-            passed: 0,
-            holds: false,
-            held: 0,
-            answer: 0,
+        if self.at < c {
+            if self.passed < c {
+                return self.answer == 0;
+            }
         }
+        false
     }
 
     // On to the following cell of c.
@@ -115,33 +114,45 @@ impl Progress {
         }
     }
 
-    // The record after a turn, and the event.
-    fn turn(self, c: usize, turn: Turn) -> Stepped
+    // No step is taken. A record that is made anew has no padding to hand on; one that is copied whole
+    // would drag its padding through every step.
+    fn keep(self) -> Progress
+        ensures { λ r. ⌜ r ≡ self ⌝ }
+    {
+        Progress {
+            at: self.at,
+            passed: self.passed,
+            holds: self.holds,
+            held: self.held,
+            answer: self.answer,
+        }
+    }
+
+    // The record after a turn.
+    fn turn(self, c: usize, turn: Turn) -> Progress
         requires { ⌜ (self .at < c) × (self .passed < c) ⌝ }
         ensures { λ r. ⌜ r ≡ turned c self turn ⌝ }
     {
         match turn {
-            Turn::Pass => Stepped {
-                progress: self.pass(c),
-                event: Event::Passed,
-            },
-            Turn::Hold(word) => Stepped {
-                progress: self.hold(word),
-                event: Event::Held,
-            },
-            Turn::Lose => Stepped {
-                progress: self.lose(),
-                event: Event::Lost,
-            },
-            Turn::Finish(answer) => Stepped {
-                progress: self.finish(answer),
-                event: Event::Finished,
-            },
-            Turn::Refuse => Stepped {
-                progress: self,
-                event: Event::Refused,
-            },
+            Turn::Pass => self.pass(c),
+            Turn::Hold(word) => self.hold(word),
+            Turn::Lose => self.lose(),
+            Turn::Finish(answer) => self.finish(answer),
+            Turn::Refuse => self.keep(),
         }
+    }
+}
+
+// The event of a turn, whatever the record.
+fn event_of(turn: Turn) -> Event
+    ensures { λ r. ⌜ r ≡ turnEvent turn ⌝ }
+{
+    match turn {
+        Turn::Pass => Event::Passed,
+        Turn::Hold(word) => Event::Held,
+        Turn::Lose => Event::Lost,
+        Turn::Finish(answer) => Event::Finished,
+        Turn::Refuse => Event::Refused,
     }
 }
 
@@ -163,18 +174,17 @@ pub fn step(cells: &mut [u32], operation: u64, progress: Progress) -> Stepped
 {
     let c = cells.len();
     let at = progress.at;
-    if at < c {
-        if progress.passed < c {
-            if progress.answer == 0 {
-                let taken = take(operation, c, progress, cells[at]);
-                cells[at] = taken.word;
-                let turn = taken.turn;
-                return progress.turn(c, turn);
-            }
-        }
+    if progress.is_pending(c) {
+        let taken = take(operation, c, progress, cells[at]);
+        cells[at] = taken.word;
+        let turn = taken.turn;
+        return Stepped {
+            progress: progress.turn(c, turn),
+            event: event_of(turn),
+        };
     }
     Stepped {
-        progress: progress,
+        progress: progress.keep(),
         event: Event::Refused,
     }
 }

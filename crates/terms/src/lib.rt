@@ -2,8 +2,7 @@
 // writes: into any slice and from any position on, what lies past the end counted and stored nowhere.
 ghost use mathlib.Core.Path.{_≡_};
 ghost use mathlib.Core.List.{_++_};
-ghost use lib.ListN.{take};
-ghost use Rattle.io.specs.Counts.{Counts};
+ghost use lib.ListN.{drop};
 ghost use Rattle.semantics.specs.Text.{text};
 ghost use Rattle.semantics.specs.Listing.{kindWord, codeWord, totalText};
 ghost use Rattle.text.specs.Writing.{written};
@@ -12,72 +11,38 @@ use text::put;
 use text::put_bytes;
 use text::put_labelled;
 
-// The word of a kind, with blanks after it; blanks alone for a number that is no kind.
-fn kind_word(kind: u8) -> [u8; 10]
-    ensures { λ r. ⌜ untilBlank r ≡ kindWord kind ⌝ }
+// A blank and the letters that stand from a place on, up to the next blank.
+fn put_word(out: &mut [u8], at: usize, words: &[u8], from: usize) -> usize
+    ensures { λ r. ⌜ written (record { at = at; out = now (out .entry) }) (text " " ++ untilBlank (drop from (now (words .entry)))) ≡ record { at = r; out = now (out .exit) } ⌝ }
 {
-    match kind {
-        1 => *b"find      ",
-        2 => *b"insert    ",
-        3 => *b"update    ",
-        4 => *b"add       ",
-        5 => *b"remove    ",
-        _ => *b"          ",
-    }
-}
-
-// The word of an answer's code, in the same way.
-fn code_word(code: u16) -> [u8; 10]
-    ensures { λ r. ⌜ untilBlank r ≡ codeWord code ⌝ }
-{
-    match code {
-        0 => *b"unfinished",
-        1 => *b"found     ",
-        2 => *b"inserted  ",
-        3 => *b"present   ",
-        4 => *b"changed   ",
-        5 => *b"removed   ",
-        6 => *b"absent    ",
-        7 => *b"full      ",
-        _ => *b"          ",
-    }
-}
-
-// How many letters a word has: those before the first blank.
-fn letters_of(word: &[u8]) -> usize
-    ensures { λ r. ⌜ Counts r (now (word .entry)) × (take r (now (word .entry)) ≡ untilBlank (now (word .entry))) ⌝ }
-{
-    let mut n = 0;
-    while n < word.len() {
-        if word[n] == 32 {
-            return n;
+    let mut next = put(out, at, 32);
+    let mut i = from;
+    while i < words.len() {
+        if words[i] == 32 {
+            return next;
         }
-        n = n + 1;
+        next = put(out, next, words[i]);
+        i = i + 1;
     }
-    n
+    next
 }
 
-// A blank and the letters of a word.
-fn put_word(out: &mut [u8], at: usize, word: &[u8]) -> usize
-    ensures { λ r. ⌜ written (record { at = at; out = now (out .entry) }) (text " " ++ untilBlank (now (word .entry))) ≡ record { at = r; out = now (out .exit) } ⌝ }
-{
-    let next = put(out, at, 32);
-    let n = letters_of(word);
-    put_bytes(out, next, &word[..n])
-}
-
-// A blank and the word of a kind; the blank alone for a number that is no kind.
+// A blank and the word of a kind; the blank alone for a number that is no kind. Each word has eleven
+// places, so that a blank stands after it.
 pub fn put_kind(out: &mut [u8], at: usize, kind: u8) -> usize
     ensures { λ r. ⌜ written (record { at = at; out = now (out .entry) }) (text " " ++ kindWord kind) ≡ record { at = r; out = now (out .exit) } ⌝ }
 {
-    put_word(out, at, &kind_word(kind))
+    let words = b"           find       insert     update     add        remove     ";
+    put_word(out, at, words, kind as usize * 11)
 }
 
-// A blank and the word of an answer's code; the blank alone for a number that is no code.
+// A blank and the word of an answer's code, in the same way.
 pub fn put_code(out: &mut [u8], at: usize, code: u16) -> usize
     ensures { λ r. ⌜ written (record { at = at; out = now (out .entry) }) (text " " ++ codeWord code) ≡ record { at = r; out = now (out .exit) } ⌝ }
 {
-    put_word(out, at, &code_word(code))
+    let words =
+        b"unfinished found      inserted   present    changed    removed    absent     full       ";
+    put_word(out, at, words, code as usize * 11)
 }
 
 // A blank and a total or an amount.

@@ -1,16 +1,19 @@
 -- Laws of a text that is written: one byte, one text after another, the position after it, and the slice where it fits.
 -- Assumes nothing.
 use mathlib.Core.Path.{_≡_, refl, sym, ap, subst, _∙_}
+use mathlib.Core.Bool.{Bool, true, false}
 use Prim.Native.Nat.{ℕ, _+_, min, _≤_, _<_}
 use mathlib.Core.List.{List, [], _∷_, _++_, append-assoc, append-nil}
 use native.Mathlib.Nat.{zero-add}
 use native.Mathlib.Numerals.{add-one}
 use native.Mathlib.Omega.{arith}
+use native.Mathlib.Decide.{decLe}
+use lib.Dec.{leb}
 use lib.ListN.{length, getD, set, take, length-append, length-set}
 use lib.Seq.{append-snoc, take-suc}
-use borrow.Author.Tests.{le-leb, lt-leb}
+use borrow.Author.Tests.{le-leb, lt-leb, leb-true}
 use Rattle.semantics.specs.Run.{over}
-use Rattle.semantics.specs.Text.{handed}
+use Rattle.semantics.specs.Text.{textsBelow, handed}
 use Rattle.semantics.proofs.Over.{over-next}
 use Rattle.text.specs.Writing.{Writing, lastPosition, put, written}
 
@@ -38,6 +41,17 @@ pub next-byte : (w : Writing) {u v : Writing} (bytes : List ℕ) (i : ℕ) → i
     → written u (getD bytes i 0 ∷ []) ≡ v → written w (take (i + 1) bytes) ≡ v
 next-byte w bytes i h e f = rw (add-one, take-suc bytes i 0 h) (next w (take i bytes) (getD bytes i 0 ∷ []) e f)
 
+-- the texts of the numbers below one, and one more
+module _ (w : Writing) where
+  pub no-text : (f : ℕ → List ℕ) → written w (textsBelow 0 f) ≡ w
+  unfolding textsBelow written
+  no-text f = refl
+
+  pub next-text : {a v : Writing} (i : ℕ) (f : ℕ → List ℕ) → written w (textsBelow i f) ≡ a → written a (f i) ≡ v
+      → written w (textsBelow (i + 1) f) ≡ v
+  unfolding textsBelow
+  next-text i f e g = rw (add-one i) (next w (textsBelow i f) (f i) e g)
+
 -- the slice keeps its length
 pub same-length : (w : Writing) {u : Writing} (bytes : List ℕ) → written w bytes ≡ u → length (u .out) ≡ length (w .out)
 unfolding written put
@@ -50,10 +64,17 @@ unfolding written put
 position w [] h = omega arith
 position w (b ∷ more) h = position (put w b) more (omega arith) ∙ omega arith
 
-measured : (bytes probe : List ℕ) {n : ℕ} {left : List ℕ} → written (record { at = 0; out = probe }) bytes ≡ record { at = n; out = left }
-    → n ≡ min (length bytes) lastPosition
-measured bytes probe e =
+-- by the length as measured on another slice it shows whether a text fits into the room of a slice
+pub measured : (bytes probe : List ℕ) (room : ℕ) {n : ℕ} {left : List ℕ} → room < lastPosition
+    → written (record { at = 0; out = probe }) bytes ≡ record { at = n; out = left } → leb n room ≡ leb (length bytes) room
+measured bytes probe room {n} short e =
+    let long : n ≡ min (length bytes) lastPosition =
     ap (λ (w : Writing). w .at) (sym e) ∙ position (record { at = 0; out = probe }) bytes (omega arith) ∙ ap (λ n. min n lastPosition) (zero-add (length bytes))
+    in
+    elim (decLe (length bytes) room) [
+      | yes h ↦ le-leb n room (omega arith) ∙ sym (le-leb (length bytes) room h)
+      | no h ↦ lt-leb n room (omega arith) ∙ sym (lt-leb (length bytes) room (omega arith))
+    ]
 
 -- a text that fits stands over the slice's front
 whole : (a b out : List ℕ) → length (a ++ b) ≤ length out → length out < lastPosition
@@ -69,17 +90,15 @@ whole a (b ∷ more) out fits short =
     ∙ whole (a ++ (b ∷ [])) more out (subst (λ (l : List ℕ). length l ≤ length out) (sym same) fits) short
     ∙ (λ i. record { at = length (same i); out = over (same i) out })
 
--- A text is handed over by its length, as measured on another slice.
-module _ (bytes probe out : List ℕ) {n : ℕ} {tried : List ℕ} (e : written (record { at = 0; out = probe }) bytes ≡ record { at = n; out = tried }) where
-  pub handed-whole : {m : ℕ} {left : List ℕ} → written (record { at = 0; out = out }) bytes ≡ record { at = m; out = left } → n ≤ length out
-      → length out < lastPosition → handed bytes out ≡ record { written = record { number = 0; place = 0; length = m }; out = left }
+-- a text is handed over whole where it fits, and not at all elsewhere
+module _ (bytes out : List ℕ) {z : Bool} (fits : z ≡ leb (length bytes) (length out)) where
+  pub handed-whole : {m : ℕ} {left : List ℕ} → z ≡ true → length out < lastPosition → written (record { at = 0; out = out }) bytes ≡ record { at = m; out = left }
+      → handed bytes out ≡ record { written = record { number = 0; place = 0; length = m }; out = left }
   unfolding handed over
-  handed-whole f fits short =
-      let long : length bytes ≤ length out = omega (arith, measured bytes probe e) in
-      let is = sym (whole [] bytes out long short) ∙ f in
-      rw (le-leb (length bytes) (length out) long)
-      (λ i. record { written = record { number = 0; place = 0; length = is i .at }; out = is i .out })
+  handed-whole does short e =
+      let is = sym (whole [] bytes out (leb-true (length bytes) (length out) (sym fits ∙ does)) short) ∙ e in
+      rw (← fits, does) (λ i. record { written = record { number = 0; place = 0; length = is i .at }; out = is i .out })
 
-  pub handed-not : length out < n → handed bytes out ≡ record { written = record { number = 3; place = 0; length = 0 }; out = out }
+  pub handed-not : z ≡ false → handed bytes out ≡ record { written = record { number = 3; place = 0; length = 0 }; out = out }
   unfolding handed
-  handed-not short = rw (lt-leb (length bytes) (length out) (omega (arith, measured bytes probe e)))
+  handed-not not = rw (← fits, not)

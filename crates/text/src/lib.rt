@@ -1,6 +1,7 @@
-// A writer of bytes into a lent slice: texts, and numbers in decimal. It has no bounds: a byte past the slice's end is stored nowhere and is counted all the
-// same, so every function takes every slice and every position, and a text written into a slice of
-// one byte tells how long it is. Each function returns the position after what it wrote.
+// A writer of bytes into a lent slice: texts, and numbers in decimal. It has no bounds: a byte past
+// the slice's end is stored nowhere and is counted all the same, so every function takes every slice
+// and every position, and a text written into a slice of one byte tells how long it is. Each function
+// returns the position after what it wrote.
 ghost use mathlib.Core.Path.{_≡_};
 ghost use mathlib.Core.List.{_++_, _∷_, []};
 ghost use Rattle.semantics.specs.Text.{decimal as Text·decimal};
@@ -34,19 +35,12 @@ pub fn put_bytes(out: &mut [u8], at: usize, bytes: &[u8]) -> usize
     next
 }
 
-// A number in decimal.
-fn put_number(out: &mut [u8], at: usize, n: u64) -> usize
-    ensures { λ r. ⌜ written (record { at = at; out = now (out .entry) }) (Text·decimal n) ≡ record { at = r; out = now (out .exit) } ⌝ }
-{
-    let mut digits = [0u8; 20];
-    let k = decimal(n, &mut digits);
-    put_bytes(out, at, &digits[..k])
-}
-
-// A label and a number after it.
+// A label and a number after it, in decimal.
 pub fn put_labelled(out: &mut [u8], at: usize, label: &[u8], n: u64) -> usize
     ensures { λ r. ⌜ written (record { at = at; out = now (out .entry) }) (now (label .entry) ++ Text·decimal n) ≡ record { at = r; out = now (out .exit) } ⌝ }
 {
     let next = put_bytes(out, at, label);
-    put_number(out, next, n)
+    let mut digits = [0u8; 20];
+    let k = decimal(n, &mut digits);
+    put_bytes(out, next, &digits[..k])
 }

@@ -16,6 +16,7 @@ use Rattle.semantics.specs.Words.{operationKey, amountBits}
 use Rattle.semantics.proofs.Tests.{both, passed, true-T}
 use Rattle.rule.specs.declared.Rule.{Rule}
 use Rattle.rule.specs.Rule.{ruleIf, isStay}
+use Rattle.turn.specs.declared.Turn as declared
 use Rattle.turn.specs.declared.Turn.the-variants.{Pass, Hold, Finish}
 use Rattle.turn.specs.Turn.{turnOf, heldOf, readTurn, swapWon}
 
@@ -43,30 +44,13 @@ sight-other k w n e = go (isLiveKey (keyOf w)) refl
     go true l = rw (l, differ l)
     go false l = rw (l, ne-eqb w 0 n)
 
--- an operation, and the rule of its kind where its key has total t
-module _ (c operation t : ℕ) {rule : Rule} (is : rule ≡ ruleIf true c (decodeOperation operation) t) where
+-- an operation that reads word w, with p cells passed
+module _ (c operation : ℕ) where
   abbrev S : Setting
   S = narrowSetting c
 
   abbrev o : Operation Total
   o = decodeOperation operation
-
-  -- what the rule says
-  makes-is : {b : Bool} → rule .makes ≡ b → makes (o .kind) ≡ b
-  unfolding ruleIf
-  makes-is e = sym (ap (λ r. r .makes) is) ∙ e
-
-  stays-is : {b : Bool} → rule .stays ≡ b → isStay (effect S (o .kind) (narrow t) (o .amount) .fate) ≡ b
-  unfolding ruleIf
-  stays-is e = sym (ap (λ r. r .stays) is) ∙ e
-
-  answer-is : rule .answer ≡ answerWord (some (effect S (o .kind) (narrow t) (o .amount) .answer))
-  unfolding ruleIf
-  answer-is = ap (λ r. r .answer) is
-
-  word-is : rule .word ≡ encode (fateCell S (o .key) (narrow t) (effect S (o .kind) (narrow t) (o .amount) .fate))
-  unfolding ruleIf
-  word-is = ap (λ r. r .word) is
 
   module _ (p w : ℕ) where
     -- a read goes by what is seen
@@ -75,60 +59,77 @@ module _ (c operation t : ℕ) {rule : Rule} (is : rule ≡ ruleIf true c (decod
     read-seen v e = ap (λ v. turnOf c (o .key) (bounded S (o .kind) p (read S o v))) (sym e)
 
     -- "2. Empty: find, update and remove finish absent; insert and add hold the empty word."
-    pub read-empty : w ≡ 0 → (b : Bool) → rule .makes ≡ b → cond b (Hold 0) (Finish 393216) ≡ readTurn c operation p w
+    pub read-empty : w ≡ 0 → {r : declared.Turn} → r ≡ cond (makes (o .kind)) (cond (eqb w 0) (Hold 0) (Finish 458752)) (Finish 393216) → r ≡ readTurn c operation p w
     unfolding read turnOf bounded encode heldCell answerWord codeOf carried totalOf
-    read-empty z b e = go b (makes-is e) ∙ read-seen free (rw z (sight-empty (o .key)))
+    read-empty z is = is ∙ go (makes (o .kind)) refl ∙ read-seen free (rw z (sight-empty (o .key)))
       where
-        go : (m : Bool) → makes (o .kind) ≡ m → cond m (Hold 0) (Finish 393216) ≡ turnOf c (o .key) (bounded S (o .kind) p (read S o free))
-        go true q = rw q
+        go : (m : Bool) → makes (o .kind) ≡ m
+            → cond m (cond (eqb w 0) (Hold 0) (Finish 458752)) (Finish 393216) ≡ turnOf c (o .key) (bounded S (o .kind) p (read S o free))
+        go true q = rw (q, eq-eqb w 0 z)
         go false q = rw q
 
-    module _ (k : ℕ) (key : k ≡ operationKey operation) where
-      -- "1. The row's key": what leaves the total as it is finishes at the read, anything else holds the word
-      pub read-own : t ≡ totalBits w → (isLiveKey k && eqb k (keyOf w)) ≡ true → (b : Bool) → rule .stays ≡ b
-          → cond b (Finish (rule .answer)) (Hold w) ≡ readTurn c operation p w
-      unfolding read turnOf bounded readOwn isStay encode heldCell narrow decodeOperation
-      read-own total h b e = go (did .fate) (stays-is e) ∙ read-seen (own (narrow t)) (sight-own (operationKey operation) w mine ∙ ap (λ n. own (narrow n)) (sym total))
+    -- "3. Another key or a tombstone: one more cell is passed."
+    module _ (n : w ≡ 0 → ⊥) (h : (isLiveKey (operationKey operation) && eqb (operationKey operation) (keyOf w)) ≡ false) where
+      other-seen : turnOf c (o .key) (bounded S (o .kind) p passes) ≡ readTurn c operation p w
+      unfolding read decodeOperation
+      other-seen = read-seen other (sight-other (operationKey operation) w n h)
+
+      -- "If c are now passed, insert and add finish full and the others finish absent."
+      pub read-last : eqb (suc p) c ≡ true → {r : declared.Turn} → r ≡ cond (makes (o .kind)) (cond (eqb w 0) (Hold 0) (Finish 458752)) (Finish 393216) → r ≡ readTurn c operation p w
+      unfolding turnOf bounded exhausted answerWord codeOf carried totalOf
+      read-last z is = is ∙ go (makes (o .kind)) refl ∙ other-seen
         where
-          did : Effect Total
-          did = effect S (o .kind) (narrow t) (o .amount)
+          go : (m : Bool) → makes (o .kind) ≡ m
+              → cond m (cond (eqb w 0) (Hold 0) (Finish 458752)) (Finish 393216) ≡ turnOf c (o .key) (bounded S (o .kind) p passes)
+          go true q = rw (z, q, ne-eqb w 0 n)
+          go false q = rw (z, q)
 
-          mine : (isLiveKey (operationKey operation) && eqb (operationKey operation) (keyOf w)) ≡ true
-          mine = subst (λ j. (isLiveKey j && eqb j (keyOf w)) ≡ true) key h
+      pub read-on : eqb (suc p) c ≡ false → Pass ≡ readTurn c operation p w
+      unfolding turnOf bounded
+      read-on more = rw more at other-seen
 
-          back : w ≡ operationKey operation * 65536 + t
-          back = omega (arith, total, eqb→eq (operationKey operation) (keyOf w) (both (isLiveKey (operationKey operation)) (eqb (operationKey operation) (keyOf w)) (true-T _ mine) .1))
+  -- and the rule of its kind where its key has total t
+  module _ (t : ℕ) {rule : Rule} (is : rule ≡ ruleIf true c (decodeOperation operation) t) where
+    -- what the rule says
+    pub makes-is : {b : Bool} → rule .makes ≡ b → makes (o .kind) ≡ b
+    unfolding ruleIf
+    makes-is e = sym (ap (λ r. r .makes) is) ∙ e
 
-          go : (f : Fate Total) → isStay f ≡ b
-              → cond b (Finish (rule .answer)) (Hold w) ≡ turnOf c (o .key) (bounded S (o .kind) p (readOwn S (narrow t) (did .answer) f))
-          go stays q = rw (← q) (ap Finish answer-is)
-          go ends q = rw (← q) (ap Hold back)
-          go (becomes u) q = rw (← q) (ap Hold back)
+    stays-is : {b : Bool} → rule .stays ≡ b → isStay (effect S (o .kind) (narrow t) (o .amount) .fate) ≡ b
+    unfolding ruleIf
+    stays-is e = sym (ap (λ r. r .stays) is) ∙ e
 
-      -- "3. Another key or a tombstone: one more cell is passed."
-      module _ (n : w ≡ 0 → ⊥) (h : (isLiveKey k && eqb k (keyOf w)) ≡ false) where
-        other-seen : turnOf c (o .key) (bounded S (o .kind) p passes) ≡ readTurn c operation p w
-        unfolding read decodeOperation
-        other-seen = read-seen other (sight-other (operationKey operation) w n (subst (λ j. (isLiveKey j && eqb j (keyOf w)) ≡ false) key h))
+    answer-is : rule .answer ≡ answerWord (some (effect S (o .kind) (narrow t) (o .amount) .answer))
+    unfolding ruleIf
+    answer-is = ap (λ r. r .answer) is
 
-        -- "If c are now passed, insert and add finish full and the others finish absent."
-        pub read-last : suc p ≡ c → (b : Bool) → rule .makes ≡ b → cond b (Finish 458752) (Finish 393216) ≡ readTurn c operation p w
-        unfolding turnOf bounded exhausted answerWord codeOf carried totalOf
-        read-last z b e = go b (makes-is e) ∙ other-seen
-          where
-            go : (m : Bool) → makes (o .kind) ≡ m → cond m (Finish 458752) (Finish 393216) ≡ turnOf c (o .key) (bounded S (o .kind) p passes)
-            go true q = rw (eq-eqb (suc p) c z, q)
-            go false q = rw (eq-eqb (suc p) c z, q)
+    word-is : rule .word ≡ encode (fateCell S (o .key) (narrow t) (effect S (o .kind) (narrow t) (o .amount) .fate))
+    unfolding ruleIf
+    word-is = ap (λ r. r .word) is
 
-        pub read-on : (suc p ≡ c → ⊥) → Pass ≡ readTurn c operation p w
-        unfolding turnOf bounded
-        read-on more = rw (ne-eqb (suc p) c more) at other-seen
+    -- "1. The row's key": what leaves the total as it is finishes at the read, anything else holds the word
+    pub read-own : (p w : ℕ) → t ≡ totalBits w → (isLiveKey (operationKey operation) && eqb (operationKey operation) (keyOf w)) ≡ true → (b : Bool) → rule .stays ≡ b
+        → cond b (Finish (rule .answer)) (Hold w) ≡ readTurn c operation p w
+    unfolding read turnOf bounded readOwn isStay encode heldCell narrow decodeOperation
+    read-own p w total mine b e = go (did .fate) (stays-is e) ∙ read-seen p w (own (narrow t)) (sight-own (operationKey operation) w mine ∙ ap (λ n. own (narrow n)) (sym total))
+      where
+        did : Effect Total
+        did = effect S (o .kind) (narrow t) (o .amount)
 
-  -- what a won swap stores and answers
-  pub won-own : (w : ℕ) → t ≡ totalBits w → (w ≡ 0 → ⊥) → record { word = rule .word; turn = Finish (rule .answer) } ≡ swapWon c operation w
-  unfolding swapWon heldOf turnOf newCell swapAnswer
-  won-own w total n =
-      (λ i. record { word = word-is i; turn = Finish (answer-is i) }) ∙ rw (ne-eqb w 0 n, ← total)
+        back : w ≡ operationKey operation * 65536 + t
+        back = omega (arith, total, eqb→eq (operationKey operation) (keyOf w) (both (isLiveKey (operationKey operation)) (eqb (operationKey operation) (keyOf w)) (true-T _ mine) .1))
+
+        go : (f : Fate Total) → isStay f ≡ b
+            → cond b (Finish (rule .answer)) (Hold w) ≡ turnOf c (o .key) (bounded S (o .kind) p (readOwn S (narrow t) (did .answer) f))
+        go stays q = rw (← q) (ap Finish answer-is)
+        go ends q = rw (← q) (ap Hold back)
+        go (becomes u) q = rw (← q) (ap Hold back)
+
+    -- what a won swap stores and answers
+    pub won-own : (w : ℕ) → t ≡ totalBits w → (w ≡ 0 → ⊥) → record { word = rule .word; turn = Finish (rule .answer) } ≡ swapWon c operation w
+    unfolding swapWon heldOf turnOf newCell swapAnswer
+    won-own w total n =
+        (λ i. record { word = word-is i; turn = Finish (answer-is i) }) ∙ rw (ne-eqb w 0 n, ← total)
 
 pub won-empty : (c operation w k a : ℕ) → w ≡ 0 → k ≡ operationKey operation → a ≡ amountBits operation
     → record { word = k * 65536 + a; turn = Finish 131072 } ≡ swapWon c operation w

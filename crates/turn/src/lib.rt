@@ -2,19 +2,22 @@
 // read, or the compare-and-swap of one that holds a word. Each gives the word that it leaves and how
 // the operation's record turns. Both take every input: a number that is no kind takes no step.
 ghost use mathlib.Core.Path.{_≡_};
-ghost use mathlib.Core.Bool.{true, _&&_};
-ghost use Prim.Native.Nat.{ℕ};
+ghost use mathlib.Core.Bool.{true, cond, _&&_};
+ghost use Prim.Native.Nat.{ℕ, suc};
 ghost use lib.Dec.{eqb};
-ghost use Rattle.semantics.specs.Words.{keyOf, totalBits, kindBits, isLiveKey, isKind, decodeOperation};
+ghost use Rattle.semantics.specs.Step.{makes};
+ghost use Rattle.semantics.specs.Words.{keyOf, totalBits, kindBits, operationKey, isLiveKey, isKind, decodeOperation};
 ghost use Rattle.rule.specs.Rule.{ruleIf};
+ghost use Rattle.turn.specs.declared.Turn.the-variants.{Hold, Finish};
 ghost use Rattle.turn.specs.Turn.{readTurn, swapWon, readIf, swapIf};
+use operation::operation_amount;
+use operation::operation_key;
 use rule::Rule;
+use rule::is_known;
 use rule::rule_of;
 use word::cell_key;
 use word::cell_word;
 use word::is_live_key;
-use word::operation_amount;
-use word::operation_key;
 
 // How a record turns: it passes on, holds a word, loses its swap or finishes with an answer; or it
 // takes no step.
@@ -39,40 +42,67 @@ const ABSENT: u32 = 6 * 65536;
 
 const FULL: u32 = 7 * 65536;
 
-// Whether a word is a cell of a live key.
-fn is_own(key: u16, word: u32) -> bool
-    ensures { λ r. ⌜ r ≡ (isLiveKey key && eqb key (keyOf word)) ⌝ }
+// Whether a word is a cell of the operation's key, which is live.
+fn is_own(operation: u64, word: u32) -> bool
+    ensures { λ r. ⌜ r ≡ (isLiveKey (operationKey operation) && eqb (operationKey operation) (keyOf word)) ⌝ }
 {
+    let key = operation_key(operation);
     if cell_key(word) == key {
         return is_live_key(key);
     }
     false
 }
 
-// A read of a word, with some of c cells passed before it.
-fn read(operation: u64, c: usize, passed: usize, word: u32, rule: Rule) -> Turn
-    requires { ⌜ rule ≡ ruleIf true c (decodeOperation operation) (totalBits word) ⌝ }
+// Whether no cell of c is left once this one is passed too.
+fn is_last(c: usize, passed: usize) -> bool
+    ensures { λ r. ⌜ r ≡ eqb (suc passed) c ⌝ }
+{
+    if passed < c {
+        return c - passed == 1;
+    }
+    false
+}
+
+// The operation's key has the total of the word: the read finishes, or holds the word.
+fn own(operation: u64, word: u32) -> Turn
+    requires { ⌜ (isKind (kindBits operation) ≡ true) × ((isLiveKey (operationKey operation) && eqb (operationKey operation) (keyOf word)) ≡ true) ⌝ }
+    ensures { λ r. ⌜ ((c p : ℕ) → r ≡ readTurn c operation p word) ⌝ }
+{
+    let rule = rule_of(operation, word);
+    if rule.stays {
+        return Turn::Finish(rule.answer);
+    }
+    Turn::Hold(word)
+}
+
+// The operation's key is missing: the word is empty, or that of the last cell.
+fn missing(operation: u64, word: u32) -> Turn
+    requires { ⌜ isKind (kindBits operation) ≡ true ⌝ }
+    ensures { λ r. ⌜ r ≡ cond (makes (decodeOperation operation .kind)) (cond (eqb word 0) (Hold 0) (Finish 458752)) (Finish 393216) ⌝ }
+{
+    let rule = rule_of(operation, word);
+    if rule.makes {
+        if word != 0 {
+            return Turn::Finish(FULL);
+        }
+        return Turn::Hold(0);
+    }
+    Turn::Finish(ABSENT)
+}
+
+// A read of a word, with some of c cells passed before it. Most reads pass on, and those need no rule.
+fn read(operation: u64, c: usize, passed: usize, word: u32) -> Turn
+    requires { ⌜ isKind (kindBits operation) ≡ true ⌝ }
     ensures { λ r. ⌜ r ≡ readTurn c operation passed word ⌝ }
 {
     if word == 0 {
-        if rule.makes {
-            return Turn::Hold(0);
-        }
-        return Turn::Finish(ABSENT);
+        return missing(operation, word);
     }
-    if is_own(operation_key(operation), word) {
-        if rule.stays {
-            return Turn::Finish(rule.answer);
-        }
-        return Turn::Hold(word);
+    if is_own(operation, word) {
+        return own(operation, word);
     }
-    if passed < c {
-        if c - passed == 1 {
-            if rule.makes {
-                return Turn::Finish(FULL);
-            }
-            return Turn::Finish(ABSENT);
-        }
+    if is_last(c, passed) {
+        return missing(operation, word);
     }
     Turn::Pass
 }
@@ -81,11 +111,10 @@ fn read(operation: u64, c: usize, passed: usize, word: u32, rule: Rule) -> Turn
 pub fn look(operation: u64, c: usize, passed: usize, word: u32) -> Taken
     ensures { λ r. ⌜ r ≡ readIf c operation (isKind (kindBits operation)) passed word ⌝ }
 {
-    let rule = rule_of(operation, word);
-    if rule.known {
+    if is_known(operation) {
         return Taken {
             word: word,
-            turn: read(operation, c, passed, word, rule),
+            turn: read(operation, c, passed, word),
         };
     }
     Taken {

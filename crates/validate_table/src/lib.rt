@@ -6,47 +6,12 @@ use semantics::Refusal;
 ghost use mathlib.Core.Path.{_≡_};
 ghost use mathlib.Core.Bool.{true, _&&_};
 ghost use mathlib.Core.List.{[], _∷_};
-ghost use Prim.Native.Nat.{_+_, _-_, _/_, _%_, _<_};
+ghost use Prim.Native.Nat.{_+_, _-_, _%_, _≤_, _<_};
 ghost use lib.Dec.{eqb, ltb};
-ghost use lib.ListN.{length, getD, set};
+ghost use lib.ListN.{length, getD};
 ghost use Rattle.semantics.specs.Basics.{firstBelow};
-ghost use Rattle.semantics.specs.Sets.{isIn, including};
 ghost use Rattle.semantics.specs.Words.{sizeAllowed, isLiveKey, keyOf, homeIn};
-ghost use Rattle.semantics.specs.Refusals.{callOf, firstMet, isRepeated, isUnreachable, sizeNotAllowed, tableConditions};
-
-// A set of keys, a bit for each of the 65,536: key k is place k % 64 of word k / 64.
-fn has_key(keys: &[u64; 1024], key: u16) -> bool
-    ensures { λ r. ⌜ r ≡ isIn (getD (now (keys .entry)) (key / 64) 0) (key % 64) ⌝ }
-{
-    sets::has(keys[(key / 64) as usize], (key % 64) as u8)
-}
-
-fn add_key(keys: &mut [u64; 1024], key: u16)
-    ensures { λ r. ⌜ now (keys .exit) ≡ set (now (keys .entry)) (key / 64) (including (getD (now (keys .entry)) (key / 64) 0) (key % 64)) ⌝ }
-{
-    let group = (key / 64) as usize;
-    keys[group] = sets::with(keys[group], (key % 64) as u8);
-}
-
-// 7: a live key that is in the set of those seen in lower cells. Tombstones may repeat, so their key
-// is neither kept nor looked for.
-fn first_repeated_key(cells: &[u32]) -> usize
-    ensures { λ r. ⌜ r ≡ firstBelow (length (now (cells .entry))) (isRepeated (now (cells .entry))) ⌝ }
-{
-    let mut seen = [0u64; 1024];
-    let mut i = 0;
-    while i < cells.len() {
-        let key = word::cell_key(cells[i]);
-        if word::is_live_key(key) {
-            if has_key(&seen, key) {
-                return i;
-            }
-            add_key(&mut seen, key);
-        }
-        i += 1;
-    }
-    i
-}
+ghost use Rattle.semantics.specs.Refusals.{callOf, firstMet, isUnreachable, sizeNotAllowed, tableConditions};
 
 // How many cells lie behind the last empty one, or all: they are the filled cells directly before
 // cell 0, since the table goes round.
@@ -63,38 +28,46 @@ fn filled_at_end(cells: &[u32]) -> usize
     d
 }
 
-// Whether word w of cell i, of c cells, has a live key whose home lies further back than the filled
-// cells directly before it, so that an empty cell is between. The share, 65,536 / c, is the same for
-// every cell.
-fn is_cut_off(w: u32, i: usize, c: usize, share: u32, filled: usize) -> bool
-    requires { ⌜ (sizeAllowed c ≡ true) × (i < c) × (share ≡ 65536 / c) ⌝ }
-    ensures { λ r. ⌜ r ≡ (isLiveKey (keyOf w) && ltb filled ((i + c - homeIn c (keyOf w)) % c)) ⌝ }
+// Whether word w of cell i, of c cells, has a live key whose home lies before the start of the filled
+// cells directly before i, so that an empty cell is between. The start is told by a number c too large,
+// so that it may lie behind cell 0: a home up to i is c too large as well, and one past i, from which
+// a search comes round the end, is the number itself.
+fn is_cut_off(w: u32, i: usize, c: usize, start: usize) -> bool
+    requires { ⌜ (sizeAllowed c ≡ true) × (i < c) × (start ≤ i + c) ⌝ }
+    ensures { λ r. ⌜ r ≡ (isLiveKey (keyOf w) && ltb (i + c - start) ((i + c - homeIn c (keyOf w)) % c)) ⌝ }
 {
     let key = word::cell_key(w);
     if word::is_live_key(key) {
-        return filled < (i + c - (room::home(key, share) as usize)) % c;
+        let home = room::home(key, c as u32) as usize;
+        if home <= i {
+            return home + c < start;
+        }
+        return home < start;
     }
     false
 }
 
-// 8: the number of filled cells directly before a cell is carried along, from cell 0 on.
+// 8: the start of the filled cells directly before a cell is carried along, from cell 0 on. In a table
+// without an empty cell no key is cut off.
 fn first_unreachable_key(cells: &[u32]) -> usize
     requires { ⌜ sizeAllowed (length (now cells)) ≡ true ⌝ }
     ensures { λ r. ⌜ r ≡ firstBelow (length (now (cells .entry))) (isUnreachable (now (cells .entry))) ⌝ }
 {
     let c = cells.len();
-    let share = 65536 / (c as u32);
-    let mut filled = filled_at_end(cells);
+    let filled = filled_at_end(cells);
+    if filled == c {
+        return c;
+    }
+    let mut start = c - filled;
     let mut i = 0;
     while i < c {
         let w = cells[i];
-        if is_cut_off(w, i, c, share, filled) {
-            return i;
-        }
         if w == 0 {
-            filled = 0;
+            start = i + c + 1;
         } else {
-            filled += 1;
+            if is_cut_off(w, i, c, start) {
+                return i;
+            }
         }
         i += 1;
     }
@@ -107,7 +80,7 @@ pub fn table_refusal(cells: &[u32]) -> Refusal
     ensures { λ r. ⌜ r ≡ (let call = callOf (now (cells .entry)) [] [] 0 0 in firstMet (sizeNotAllowed call ∷ tableConditions call)) ⌝ }
 {
     if room::size_allowed(cells.len()) {
-        let repeated = first_repeated_key(cells);
+        let repeated = validate_keys::first_repeated_key(cells);
         if repeated < cells.len() {
             return Refusal {
                 number: 7,

@@ -58,9 +58,9 @@ fn kind_allowed(kind: u8, amount: u16) -> bool
 fn operation_allowed(w: u64) -> bool
     ensures { λ r. ⌜ r ≡ operationAllowed w ⌝ }
 {
-    if word::above_kind(w) == 0 {
-        if word::is_live_key(word::operation_key(w)) {
-            return kind_allowed(word::operation_kind(w), word::operation_amount(w));
+    if operation::above_kind(w) == 0 {
+        if word::is_live_key(operation::operation_key(w)) {
+            return kind_allowed(operation::operation_kind(w), operation::operation_amount(w));
         }
     }
     false

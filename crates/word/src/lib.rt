@@ -1,22 +1,18 @@
-// Packed words (document 01, "Cells, rows, schedule"): every field of a cell, an operation and an
-// answer, taken out and put together by shifts and masks; whether a key is live; and slices of words
-// set to 0. The contracts say each field as a quotient or a remainder, so that no other crate has to
-// reason about bits. Every function takes every input.
+// Packed cells and answers (document 01, "Cells, rows, schedule"): their fields, taken out and put
+// together by shifts and masks; and whether a key is live. The contracts say each field as a quotient
+// or a remainder, so that callers need not reason about bits. Every function takes every input.
 ghost use mathlib.Core.Path.{_≡_};
-ghost use Prim.Native.Nat.{_+_, _*_, _/_, _%_, _^_};
-ghost use lib.ListN.{length, replicate};
+ghost use Prim.Native.Nat.{_+_, _*_, _/_, _%_};
 ghost use Rattle.semantics.specs.Words.{keyOf, totalBits, isLiveKey};
-ghost use Rattle.semantics.specs.Words.{kindBits, bitsAboveKind, operationKey, amountBits};
 
-// Sixteen bits above sixteen: the layout of a cell and of an answer, and of an operation's key and
-// amount below its kind. low_sixteen serves words of both widths.
+// Sixteen bits above sixteen: the layout of a cell and of an answer.
 fn upper_half(w: u32) -> u16
     ensures { λ r. ⌜ r ≡ w / 65536 ⌝ }
 {
     (w >> 16) as u16
 }
 
-fn low_sixteen(w: u64) -> u16
+fn lower_half(w: u32) -> u16
     ensures { λ r. ⌜ r ≡ w % 65536 ⌝ }
 {
     (w & 0xffff) as u16
@@ -38,7 +34,7 @@ pub fn cell_key(w: u32) -> u16
 pub fn cell_total(w: u32) -> u16
     ensures { λ r. ⌜ r ≡ totalBits w ⌝ }
 {
-    low_sixteen(w as u64)
+    lower_half(w)
 }
 
 pub fn cell_word(key: u16, total: u16) -> u32
@@ -57,45 +53,13 @@ pub fn answer_code(w: u32) -> u16
 pub fn answer_total(w: u32) -> u16
     ensures { λ r. ⌜ r ≡ w % 65536 ⌝ }
 {
-    low_sixteen(w as u64)
+    lower_half(w)
 }
 
 pub fn answer_word(code: u8, total: u16) -> u32
     ensures { λ r. ⌜ r ≡ code * 65536 + total ⌝ }
 {
     joined(code as u16, total)
-}
-
-// An operation (document 01's row): the kind in eight bits above its key and its amount. The bits
-// above the kind are 0 in an allowed operation.
-pub fn above_kind(w: u64) -> u32
-    ensures { λ r. ⌜ r ≡ bitsAboveKind w ⌝ }
-{
-    (w >> 40) as u32
-}
-
-pub fn operation_kind(w: u64) -> u8
-    ensures { λ r. ⌜ r ≡ kindBits w ⌝ }
-{
-    ((w >> 32) & 0xff) as u8
-}
-
-pub fn operation_key(w: u64) -> u16
-    ensures { λ r. ⌜ r ≡ operationKey w ⌝ }
-{
-    low_sixteen(w >> 16)
-}
-
-pub fn operation_amount(w: u64) -> u16
-    ensures { λ r. ⌜ r ≡ amountBits w ⌝ }
-{
-    low_sixteen(w)
-}
-
-pub fn operation_word(kind: u8, key: u16, amount: u16) -> u64
-    ensures { λ r. ⌜ r ≡ kind * 2 ^ 32 + key * 65536 + amount ⌝ }
-{
-    ((kind as u64) << 32) | (joined(key, amount) as u64)
 }
 
 // Whether a key is live, at the width of the load module's keys: 0 is the key of an empty cell, and
@@ -110,15 +74,4 @@ pub fn is_live_key(k: u16) -> bool
     ensures { λ r. ⌜ r ≡ isLiveKey k ⌝ }
 {
     is_live(k as u32)
-}
-
-// Every word 0: no answer yet, or no cell filled.
-pub fn clear(words: &mut [u32])
-    ensures { λ _. ⌜ now (words .exit) ≡ replicate (length (now (words .entry))) 0 ⌝ }
-{
-    let mut i = 0;
-    while i < words.len() {
-        words[i] = 0;
-        i = i + 1;
-    }
 }

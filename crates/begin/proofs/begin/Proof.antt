@@ -31,12 +31,12 @@ all-begun : (c : ℕ) (operations : List ℕ) (i : ℕ) → length (take 64 oper
 unfolding firstRecords
 all-begun c operations i all = ap (λ l. over (map (atHome c) l) blank) (take-all i (take 64 operations) all)
 
-begin-requires : tie.Need-begin-requires Inv-loop μ-loop
-begin-requires c κs = search needs
+reading-at-requires : tie.Need-reading-at-requires Inv-loop μ-loop
+reading-at-requires c κs = search needs
 
 loop-holds : tie.Need-loop-holds Inv-loop μ-loop
 unfolding blank
-loop-holds c = (omega arith, omega arith, ap (replicate 64) (c .begin .ensures) ∙ sym (over-none blank))
+loop-holds c = (omega arith, omega arith, ap (replicate 64) (c .reading-at .ensures) ∙ sym (over-none blank))
 
 returns : tie.Need-returns Inv-loop μ-loop
 returns c =
@@ -59,11 +59,11 @@ cast-room-home c = search needs
 room-home-requires : tie.Need-room-home-requires Inv-loop μ-loop
 room-home-requires c κs = search needs
 
-cast-begin : tie.Need-cast-begin Inv-loop μ-loop
-cast-begin c = search needs
+cast-reading-at : tie.Need-cast-reading-at Inv-loop μ-loop
+cast-reading-at c = search needs
 
-begin-requires-2 : tie.Need-begin-requires-2 Inv-loop μ-loop
-begin-requires-2 c κs = search needs
+reading-at-requires-2 : tie.Need-reading-at-requires-2 Inv-loop μ-loop
+reading-at-requires-2 c κs = search needs
 
 mul-records : tie.Need-mul-records Inv-loop μ-loop
 mul-records c = search needs
@@ -93,7 +93,7 @@ loop-again c =
       omega (arith, other .if1 .left, a .loop .inv .1),
       map-next (atHome (s .c)) (take 64 operations) 0 i blank _
           (omega (arith, length-take 64 operations, less, other .if1 .left, a .loop .inv .1)) (omega (arith, length-take 64 operations)) (a .loop .inv .2)
-          (c .begin2 .ensures ∙ ap begun home ∙ ap (atHome (s .c)) (sym (getD-take 64 operations i 0 less))),
+          (c .reading-at2 .ensures ∙ ap begun home ∙ ap (atHome (s .c)) (sym (getD-take 64 operations i 0 less))),
     )
 
 returns-2 : tie.Need-returns-2 Inv-loop μ-loop
@@ -107,7 +107,7 @@ begin-spec =
     (tie.spec
     Inv-loop
     μ-loop
-    begin-requires
+    reading-at-requires
     loop-holds
     returns
     mul-operation-key
@@ -115,8 +115,8 @@ begin-spec =
     operation-key-requires
     cast-room-home
     room-home-requires
-    cast-begin
-    begin-requires-2
+    cast-reading-at
+    reading-at-requires-2
     mul-records
     array-set-from-records
     add-i

@@ -1,4 +1,4 @@
--- `listing::put_counts` meets its contract.
+-- `lines::put_counts` meets its contract.
 -- Assumes nothing.
 use Rattle.semantics.specs.Text.{text}
 use Rattle.lines.proofs.Lines.{counts-line}
@@ -18,20 +18,14 @@ slice-aggregate-put-labelled-2 c = search needs
 put-labelled-requires-2 : tie.Need-put-labelled-requires-2
 put-labelled-requires-2 c κs = search needs
 
-slice-aggregate-put-labelled-3 : tie.Need-slice-aggregate-put-labelled-3
-slice-aggregate-put-labelled-3 c = search needs
+slice-aggregate-put-last-two : tie.Need-slice-aggregate-put-last-two
+slice-aggregate-put-last-two c = search needs
 
-put-labelled-requires-3 : tie.Need-put-labelled-requires-3
-put-labelled-requires-3 c κs = search needs
+slice-aggregate-put-last-two-2 : tie.Need-slice-aggregate-put-last-two-2
+slice-aggregate-put-last-two-2 c = search needs
 
-slice-aggregate-put-labelled-4 : tie.Need-slice-aggregate-put-labelled-4
-slice-aggregate-put-labelled-4 c = search needs
-
-put-labelled-requires-4 : tie.Need-put-labelled-requires-4
-put-labelled-requires-4 c κs = search needs
-
-put-requires : tie.Need-put-requires
-put-requires c κs = search needs
+put-last-two-requires : tie.Need-put-last-two-requires
+put-last-two-requires c κs = search needs
 
 same-length : tie.Need-same-length
 same-length c = search needs
@@ -40,12 +34,9 @@ returns : tie.Need-returns
 unfolding text
 returns c =
     let end = c .before .before in
-    let idle = end .before .before .before .before in
-    let lost = idle .before .before .before .before .before in
-    let done = lost .before .before .before .before .before in
+    let done = end .before .before .before .before .before .before in
     let rows = done .before .before .before .before .before in
-    counts-line _ _ _ (rows .put-labelled .ensures) (done .put-labelled2 .ensures) (lost .put-labelled3 .ensures) (idle .put-labelled4 .ensures)
-    (end .put .ensures)
+    counts-line _ _ _ (rows .put-labelled .ensures) (done .put-labelled2 .ensures) (end .put-last-two .ensures)
 
 pub put-counts-spec : {M : Type 1} → statement M
 put-counts-spec =
@@ -55,10 +46,8 @@ put-counts-spec =
     put-labelled-requires
     slice-aggregate-put-labelled-2
     put-labelled-requires-2
-    slice-aggregate-put-labelled-3
-    put-labelled-requires-3
-    slice-aggregate-put-labelled-4
-    put-labelled-requires-4
-    put-requires
+    slice-aggregate-put-last-two
+    slice-aggregate-put-last-two-2
+    put-last-two-requires
     same-length
     returns)

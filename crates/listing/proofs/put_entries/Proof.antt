@@ -7,8 +7,7 @@ use native.Mathlib.Omega.{arith}
 use lib.ListN.{length, getD}
 use Rattle.semantics.specs.Text.{text, decimal, textsBelow}
 use Rattle.text.specs.Writing.{written}
-use Rattle.text.proofs.Writing.{same-text, same-length as kept-length}
-use Rattle.listing.proofs.Listed.{no-text, next-text}
+use Rattle.text.proofs.Writing.{same-text, no-text, next-text, same-length as kept-length}
 use borrow.Author.Needs.{needs}
 use Rattle.listing.proofs.put_entries.Statement.{statement}
 use Rattle.listing.proofs.put_entries.Tie as tie

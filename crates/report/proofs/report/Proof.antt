@@ -1,3 +1,5 @@
+-- `report::report` meets its contract: what the reader left of the file decides which text is handed over.
+-- Assumes nothing.
 use mathlib.Core.Path.{subst, _∙_}
 use Prim.Native.Nat.{ℕ}
 use lib.ListN.{replicate, length-replicate}
@@ -6,14 +8,9 @@ use Rattle.semantics.specs.Response.{runOf}
 use Rattle.report.proofs.Responded.{Answers, answers, refusal-listed, kept}
 use Rattle.report.proofs.report.Statement.{statement}
 use Rattle.report.proofs.report.Tie as tie
-use Rattle.report.proofs.report.Reads as reads
-use Rattle.report.proofs.report.Lts as lts
-use Rattle.listing.proofs.list.Reads as list-reads
-use Rattle.report.proofs.run_and_list.Reads as run-and-list-reads
-use Rattle.runfile.proofs.load.Reads as load-reads
 
 -- what the reader left of a file decides the response
-answered : (c : lts.After-load (load-reads.Asked, load-reads.Learnt, run-and-list-reads.Asked, run-and-list-reads.Learnt, list-reads.Asked, list-reads.Learnt) reads.Pre reads.Post)
+answered : (c : tie.After-load)
     → Answers (c .before .before .before .before .before .before .args .file .now)
     (record { loaded = c .load .result; cells = c .load .last .1 .0; operations = c .load .last .1 .1 .0; schedule = c .load .last .1 .1 .1 .0 })
 answered c =
@@ -67,6 +64,9 @@ unfolding Answers runOf
 returns c =
     kept _ _ _ _ (answered (c .before .before .before .before .before .before .before .before .before .before .before .before .before .before .before .before .before) .0 (c .before .before .before .before .before .before .before .before .before .before .before .before .if1 .taken)) (c .before .before .before .before .before .run-and-list .ensures)
 
+refused-requires : tie.Need-refused-requires
+refused-requires c κs = search needs
+
 slice-aggregate-list : tie.Need-slice-aggregate-list
 slice-aggregate-list c = search needs
 
@@ -88,8 +88,10 @@ same-length-2 c = search needs
 returns-2 : tie.Need-returns-2
 unfolding Answers
 returns-2 c =
-    let refused = c .before .before .before .before .before .before .before .before .if1 .left in
-    kept _ _ _ _ (answered (c .before .before .before .before .before .before .before .before .before .before .before .before .before) .1 refused ∙ refusal-listed _ _ _ _ _ _ refused) (c .before .before .list .ensures)
+    let made = c .before .before .before .before .before .before .before .before in
+    let wrong = made .before .if1 .left in
+    kept _ _ _ _ (answered (made .before .before .before .before .before .before) .1 wrong ∙ refusal-listed _ _ _ _ _ _ wrong (made .refused .ensures))
+    (c .before .before .list .ensures)
 
 pub report-spec : {M : Type 1} → statement M
 report-spec =
@@ -110,6 +112,7 @@ report-spec =
     run-and-list-requires
     same-length
     returns
+    refused-requires
     slice-aggregate-list
     slice-aggregate-list-2
     slice-aggregate-list-3

@@ -1,3 +1,5 @@
+-- `report::run_and_list` meets its contract.
+-- Assumes nothing.
 use borrow.Author.Needs.{needs}
 use Rattle.report.proofs.Responded.{run-listed}
 use Rattle.report.proofs.run_and_list.Statement.{statement}

@@ -1,22 +1,26 @@
--- `room::home` meets its contract: a quotient by 0 is 0.
+-- `room::home` meets its contract: a hash has sixteen bits and c has 32, so their product fits, and no home is above c.
 -- Assumes nothing.
-use mathlib.Core.Path.{sym}
-use native.Mathlib.Nat.{div-zero}
+use Prim.Native.Nat.{ℕ, _*_, _%_, _≤_}
+use native.Mathlib.Nat.{mul-le-mul-right}
+use native.Mathlib.Omega.{arith}
 use borrow.Author.Needs.{needs}
 use Rattle.room.proofs.home.Statement.{statement}
 use Rattle.room.proofs.home.Tie as tie
 
-returns : tie.Need-returns
-returns c = rw (c .if1 .taken) (sym (div-zero _))
+product : (k c : ℕ) → k * 40503 % 65536 * c ≤ 65535 * c
+product k c = mul-le-mul-right c (omega arith)
+
+mul-hash : tie.Need-mul-hash
+mul-hash c = search needs
 
 mul-result : tie.Need-mul-result
-mul-result c = search needs
+mul-result c = record { fits = omega (arith, product (c .args .key) (c .args .c), c .fits .c .fits) }
 
-div-result : tie.Need-div-result
-div-result c = search needs
+cast-result : tie.Need-cast-result
+cast-result c = record { fits = omega (arith, product (c .args .key) (c .args .c), c .fits .c .fits) }
 
-returns-2 : tie.Need-returns-2
-returns-2 c = search needs
+returns : tie.Need-returns
+returns c = search needs
 
 pub home-spec : {M : Type 1} → statement M
-home-spec = tie.close (tie.spec returns mul-result div-result returns-2)
+home-spec = tie.close (tie.spec mul-hash mul-result cast-result returns)

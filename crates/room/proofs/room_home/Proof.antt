@@ -1,13 +1,13 @@
--- `room::room_home` meets its contract: what the two tests allow keeps the key within 16 bits and the divisor above 0.
+-- `room::room_home` meets its contract: what the two tests allow keeps the key within 16 bits.
 -- Assumes nothing.
 use mathlib.Core.Path.{_≡_, sym, _∙_}
 use mathlib.Core.Bool.{true, and-false}
 use native.Mathlib.Omega.{arith}
 use borrow.Author.Needs.{needs}
-use Rattle.semantics.specs.Words.{isLiveKey, sizeAllowed, homeIn, roomHome}
+use Rattle.semantics.specs.Words.{isLiveKey, sizeAllowed, roomHome}
 use Rattle.semantics.proofs.Tests.{true-T}
-use Rattle.semantics.proofs.Narrow.{allowed-bounds}
 use Rattle.semantics.proofs.Words.{live-bounds}
+use Rattle.room.proofs.Powers.{home-is}
 use Rattle.room.proofs.room_home.Statement.{statement}
 use Rattle.room.proofs.room_home.Tie as tie
 
@@ -26,15 +26,12 @@ is-live-requires c κs = search needs
 cast-home : tie.Need-cast-home
 cast-home c = omega (arith, live-bounds _ (true-T _ (live c)))
 
-div-home : tie.Need-div-home
-div-home c = omega (arith, allowed-bounds _ (true-T _ (sized c)))
-
 home-requires : tie.Need-home-requires
 home-requires c κs = search needs
 
 returns : tie.Need-returns
-unfolding roomHome homeIn
-returns c = rw (sized (c .before), live (c .before)) (c .home .ensures)
+unfolding roomHome
+returns c = rw (sized (c .before), live (c .before)) (c .home .ensures ∙ home-is _ _ (true-T _ (sized (c .before))))
 
 returns-2 : tie.Need-returns-2
 unfolding roomHome
@@ -47,4 +44,4 @@ returns-3 c = rw (← c .before .size-allowed .ensures, c .if1 .left)
 pub room-home-spec : {M : Type 1} → statement M
 room-home-spec =
     tie.close
-    (tie.spec size-allowed-requires is-live-requires cast-home div-home home-requires returns returns-2 returns-3)
+    (tie.spec size-allowed-requires is-live-requires cast-home home-requires returns returns-2 returns-3)

@@ -219,19 +219,26 @@ loop-again-4 c =
           (is-none rest (c .match .keys3) (miss rest 3 tt)) (is-none rest (c .match .keys3) (miss rest 2 tt)),
     )
 
+made-requires : tie.Need-made-requires Inv-loop μ-loop
+made-requires c κs = search needs
+
 same-length : tie.Need-same-length Inv-loop μ-loop
-same-length c = cells-long (ok (start (c .before))) (c .before .loop .inv .1)
+same-length c = cells-long (ok (start (c .before .before))) (c .before .before .loop .inv .1)
 
 same-length-2 : tie.Need-same-length-2 Inv-loop μ-loop
 same-length-2 c =
-    let o = ok (start (c .before)) in
-    answers-long o (c .before .loop .inv .1) (omega (arith, cleared-long (c .before), o .answers)) ∙ cleared-long (c .before)
+    let o = ok (start (c .before .before)) in
+    answers-long o (c .before .before .loop .inv .1) (omega (arith, cleared-long (c .before .before), o .answers)) ∙ cleared-long (c .before .before)
 
 same-length-3 : tie.Need-same-length-3 Inv-loop μ-loop
-same-length-3 c = let o = ok (start (c .before)) in log-long o (c .before .loop .inv .1) (o .log)
+same-length-3 c = let o = ok (start (c .before .before)) in log-long o (c .before .before .loop .inv .1) (o .log)
 
 returns : tie.Need-returns Inv-loop μ-loop
-returns c = at-end (ok (start (c .before))) (c .before .loop .inv .1) (c .loop-test .left) _ (cleared (c .before .before .before .before .before))
+returns c =
+    let end = c .before in
+    let at = end .before .loop in
+    at-end (ok (start (end .before))) (at .inv .1) (end .loop-test .left) _ (cleared (end .before .before .before .before .before))
+    ∙ (λ i. record { outcome = sym (c .made .ensures) i; cells = at .cells; answers = at .answers; log = at .log })
 
 pub entries-spec : {M : Type 1} → statement M
 entries-spec =
@@ -273,6 +280,7 @@ entries-spec =
     loop-again-3
     loop-less-4
     loop-again-4
+    made-requires
     same-length
     same-length-2
     same-length-3

@@ -19,9 +19,6 @@ validate-requires c κs = search needs
 entries-requires : tie.Need-entries-requires
 entries-requires c κs = number-0 (c .before .before .before)
 
-size-requires : tie.Need-size-requires
-size-requires c κs = search needs
-
 same-length : tie.Need-same-length
 same-length c = search needs
 
@@ -33,16 +30,11 @@ same-length-3 c = search needs
 
 returns : tie.Need-returns
 returns c =
-    let ran = c .before .before .before .before .before .before .before .entries in
-    kept _ _ _ _ _ _
-    (accepted _ _ _ _ _ (number-0 (c .before .before .before .before .before .before .before .before .before .before .before))
-    ∙ ran .ensures
-    ∙ (λ i. record {
-      outcome = record { number = 0; place = 0; done = sym (c .size .ensures) i; lost = ran .result .lost; idle = ran .result .idle };
-      cells = ran .last .0;
-      answers = ran .last .1 .1 .1 .0;
-      log = ran .last .1 .1 .1 .1 .0;
-    }))
+    let ran = c .before .before .before .before .before .before in
+    kept _ _ _ _ _ _ (accepted _ _ _ _ _ (number-0 (ran .before .before .before .before)) ∙ ran .entries .ensures)
+
+refused-requires : tie.Need-refused-requires
+refused-requires c κs = search needs
 
 same-length-4 : tie.Need-same-length-4
 same-length-4 c = search needs
@@ -50,11 +42,13 @@ same-length-4 c = search needs
 returns-2 : tie.Need-returns-2
 unfolding refusedResult
 returns-2 c =
-    let a = c .before .before .before .before .before .before .before .before .before .args in
-    let is = c .before .before .validate .ensures in
+    let judged = c .before .before .before in
+    let a = judged .before .before .before .before .before .before .before .args in
+    let is = judged .validate .ensures in
     kept _ _ _ _ _ _
-    (refused _ _ _ _ _ (λ e. c .if1 .left (ap (λ (r : Refusal). r .number) is ∙ e))
-    ∙ ap (λ (r : Refusal). refusedResult r (a .cells .now) (a .answers .now) (a .log .now)) (sym is))
+    (refused _ _ _ _ _ (λ e. c .before .if1 .left (ap (λ (r : Refusal). r .number) is ∙ e))
+    ∙ ap (λ (r : Refusal). refusedResult r (a .cells .now) (a .answers .now) (a .log .now)) (sym is)
+    ∙ (λ i. record { outcome = sym (c .refused .ensures) i; cells = a .cells .now; answers = a .answers .now; log = a .log .now }))
 
 pub run-spec : {M : Type 1} → statement M
 run-spec =
@@ -62,10 +56,10 @@ run-spec =
     (tie.spec
     validate-requires
     entries-requires
-    size-requires
     same-length
     same-length-2
     same-length-3
     returns
+    refused-requires
     same-length-4
     returns-2)

@@ -4,12 +4,12 @@ use mathlib.Core.Path.{_≡_}
 use Prim.Native.Nat.{_-_}
 use native.Mathlib.Omega.{arith}
 use lib.ListN.{length}
-use borrow.Author.Needs.{needs}
 use Rattle.semantics.specs.Records.{records}
 use Rattle.semantics.specs.RunFile.{Contents, start, runFile, load}
 use Rattle.semantics.proofs.Records.{judgement}
 use Rattle.runfile.proofs.Refused.{slices-fit, records-accepted}
 use Rattle.runfile.proofs.Filled.{Room, Holds, Filling, filling-starts, filling-sound, filling-less, holds-long, holds-counted, turned, filling-again, filling-ends}
+use borrow.Author.Needs.{needs}
 use Rattle.runfile.proofs.fill.Statement.{statement}
 use Rattle.runfile.proofs.fill.Tie as tie
 
@@ -32,8 +32,9 @@ room c = slices-fit (c .args .file .now) _ _ _ (c .pre)
 accepted : (c : tie.Start Inv-loop μ-loop) → judgement runFile (c .args .file .now) (records runFile (c .args .file .now) start) .number ≡ 0
 accepted c = records-accepted (c .args .file .now) _ _ _ (c .pre)
 
-sound : (c : tie.After-read Inv-loop μ-loop) → c .read .result .number ≡ 0
-sound c = filling-sound (c .before .loop .inv) (room (c .before .before .before .before .before .before .before)) (accepted (c .before .before .before .before .before .before .before)) (c .read .ensures)
+-- what the slices hold past the record at the loop's position
+stores : (c : tie.After-store Inv-loop μ-loop) → Holds (lent (c .before .before .before .before .before .before .before .before .before .before .before)) (c .before .before .before .before .past .result) (load (c .before .before .before .before .before .before .before .before .before .before .before .args .file .now) (c .before .before .before .before .before .loop .inv .so-far) (c .before .before .before .before .before .loop .position)) (left c)
+stores c = turned (c .before .before .before .before .before .loop .inv) (accepted (c .before .before .before .before .before .before .before .before .before .before .before)) (room (c .before .before .before .before .before .before .before .before .before .before .before)) (c .before .before .before .before .past .ensures) (c .store .ensures)
 
 start-requires : tie.Need-start-requires Inv-loop μ-loop
 start-requires c κs = search needs
@@ -41,46 +42,40 @@ start-requires c κs = search needs
 loop-holds : tie.Need-loop-holds Inv-loop μ-loop
 loop-holds c = filling-starts (c .before .before .before .before .before .args .file .now) (lent (c .before .before .before .before .before)) (c .start .ensures)
 
-read-requires : tie.Need-read-requires Inv-loop μ-loop
-read-requires c κs = search needs
+past-requires : tie.Need-past-requires Inv-loop μ-loop
+past-requires c κs = filling-sound (c .loop .inv) (accepted (c .before .before .before .before .before .before))
 
 store-requires : tie.Need-store-requires Inv-loop μ-loop
 store-requires c κs =
-    let at = c .before .before .before .before in
     let fits = room (c .before .before .before .before .before .before .before .before .before .before) in
-    let long = holds-long fits (at .loop .inv .holds) in
+    let holds = c .before .before .before .before .loop .inv .holds in
+    let long = holds-long fits holds in
     record {
-      read = c .before .before .before .read .ensures;
-      sound = sound (c .before .before .before);
-      size = at .loop .inv .holds .small .cells;
+      sound = filling-sound (c .before .before .before .before .loop .inv) (accepted (c .before .before .before .before .before .before .before .before .before .before));
+      past = c .before .before .before .past .ensures;
+      size = holds .small .cells;
       cells = omega (arith, long .0, fits .0);
       operations = omega (arith, long .1, fits .1);
       entries = omega (arith, long .2, fits .2);
     }
 
-stores : (c : tie.After-store Inv-loop μ-loop) → Holds (lent (c .before .before .before .before .before .before .before .before .before .before .before)) (c .before .before .before .before .read .result .next) (load (c .before .before .before .before .before .before .before .before .before .before .before .args .file .now) (c .before .before .before .before .before .loop .inv .so-far) (c .before .before .before .before .before .loop .position)) (left c)
-stores c = turned (c .before .before .before .before .before .loop .inv) (room (c .before .before .before .before .before .before .before .before .before .before .before)) (accepted (c .before .before .before .before .before .before .before .before .before .before .before)) (c .before .before .before .before .read .ensures) (c .store .ensures)
-
 same-length : tie.Need-same-length Inv-loop μ-loop
-same-length c = holds-long (room (c .before .before .before .before .before .before .before .before .before .before .before .before .before .before .before .before .before .before .before .before)) (stores (c .before .before .before .before .before .before .before .before .before)) .0
+same-length c = holds-long (room (c .before .before .before .before .before .before .before .before .before .before .before .before .before .before .before .before .before .before .before)) (stores (c .before .before .before .before .before .before .before .before)) .0
 
 same-length-2 : tie.Need-same-length-2 Inv-loop μ-loop
-same-length-2 c = holds-long (room (c .before .before .before .before .before .before .before .before .before .before .before .before .before .before .before .before .before .before .before .before)) (stores (c .before .before .before .before .before .before .before .before .before)) .1
+same-length-2 c = holds-long (room (c .before .before .before .before .before .before .before .before .before .before .before .before .before .before .before .before .before .before .before)) (stores (c .before .before .before .before .before .before .before .before)) .1
 
 same-length-3 : tie.Need-same-length-3 Inv-loop μ-loop
-same-length-3 c = holds-long (room (c .before .before .before .before .before .before .before .before .before .before .before .before .before .before .before .before .before .before .before .before)) (stores (c .before .before .before .before .before .before .before .before .before)) .2
+same-length-3 c = holds-long (room (c .before .before .before .before .before .before .before .before .before .before .before .before .before .before .before .before .before .before .before)) (stores (c .before .before .before .before .before .before .before .before)) .2
 
 returns : tie.Need-returns Inv-loop μ-loop
-returns c = (
-  filling-ends (c .before .before .before .before .before .before .before .before .before .before .before .before .before .before .loop .inv) (room (c .before .before .before .before .before .before .before .before .before .before .before .before .before .before .before .before .before .before .before .before)) (accepted (c .before .before .before .before .before .before .before .before .before .before .before .before .before .before .before .before .before .before .before .before)) (c .before .before .before .before .before .before .before .before .before .before .before .before .before .read .ensures) (c .before .before .before .before .before .before .before .before .before .store .ensures) (c .if1 .taken),
-  holds-counted (room (c .before .before .before .before .before .before .before .before .before .before .before .before .before .before .before .before .before .before .before .before)) (stores (c .before .before .before .before .before .before .before .before .before)),
-)
+returns c = (filling-ends (c .before .before .before .before .before .before .before .before .before .before .before .before .before .loop .inv) (accepted (c .before .before .before .before .before .before .before .before .before .before .before .before .before .before .before .before .before .before .before)) (room (c .before .before .before .before .before .before .before .before .before .before .before .before .before .before .before .before .before .before .before)) (c .before .before .before .before .before .before .before .before .before .before .before .before .past .ensures) (c .before .before .before .before .before .before .before .before .store .ensures) (c .if1 .taken), holds-counted (room (c .before .before .before .before .before .before .before .before .before .before .before .before .before .before .before .before .before .before .before)) (stores (c .before .before .before .before .before .before .before .before)))
 
 loop-less : tie.Need-loop-less Inv-loop μ-loop
-loop-less c = filling-less (c .before .before .before .before .before .before .before .before .before .before .before .before .before .before .loop .inv) (room (c .before .before .before .before .before .before .before .before .before .before .before .before .before .before .before .before .before .before .before .before)) (accepted (c .before .before .before .before .before .before .before .before .before .before .before .before .before .before .before .before .before .before .before .before)) (c .before .before .before .before .before .before .before .before .before .before .before .before .before .read .ensures)
+loop-less c = filling-less (c .before .before .before .before .before .before .before .before .before .before .before .before .before .loop .inv) (accepted (c .before .before .before .before .before .before .before .before .before .before .before .before .before .before .before .before .before .before .before)) (room (c .before .before .before .before .before .before .before .before .before .before .before .before .before .before .before .before .before .before .before)) (c .before .before .before .before .before .before .before .before .before .before .before .before .past .ensures)
 
 loop-again : tie.Need-loop-again Inv-loop μ-loop
-loop-again c = filling-again (c .before .before .before .before .before .before .before .before .before .before .before .before .before .before .loop .inv) (room (c .before .before .before .before .before .before .before .before .before .before .before .before .before .before .before .before .before .before .before .before)) (accepted (c .before .before .before .before .before .before .before .before .before .before .before .before .before .before .before .before .before .before .before .before)) (c .before .before .before .before .before .before .before .before .before .before .before .before .before .read .ensures) (c .before .before .before .before .before .before .before .before .before .store .ensures) (c .if1 .left)
+loop-again c = filling-again (c .before .before .before .before .before .before .before .before .before .before .before .before .before .loop .inv) (accepted (c .before .before .before .before .before .before .before .before .before .before .before .before .before .before .before .before .before .before .before)) (room (c .before .before .before .before .before .before .before .before .before .before .before .before .before .before .before .before .before .before .before)) (c .before .before .before .before .before .before .before .before .before .before .before .before .past .ensures) (c .before .before .before .before .before .before .before .before .store .ensures) (c .if1 .left)
 
 pub fill-spec : {M : Type 1} → statement M
 fill-spec =
@@ -90,7 +85,7 @@ fill-spec =
     μ-loop
     start-requires
     loop-holds
-    read-requires
+    past-requires
     store-requires
     same-length
     same-length-2

@@ -1,4 +1,4 @@
--- `text::put_total` meets its contract: 65,535 has a word of its own.
+-- `terms::put_total` meets its contract: 65,535 has a word of its own.
 -- Assumes nothing.
 use mathlib.Core.Path.{ap}
 use mathlib.Core.List.{_++_}

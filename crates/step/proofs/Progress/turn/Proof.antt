@@ -2,7 +2,6 @@
 -- Assumes nothing.
 use mathlib.Core.Path.{sym, ap, _∙_}
 use borrow.Author.Needs.{needs}
-use Rattle.step.specs.declared.Event.the-variants.{Passed, Held, Lost, Finished}
 use Rattle.step.specs.Progress.{turned}
 use Rattle.step.proofs.Progress.turn.Statement.{statement}
 use Rattle.step.proofs.Progress.turn.Tie as tie
@@ -34,25 +33,28 @@ finish-requires c κs = search needs
 enum-told-3 : tie.Need-enum-told-3
 enum-told-3 c = search needs
 
+keep-requires : tie.Need-keep-requires
+keep-requires c κs = search needs
+
 returns : tie.Need-returns
 unfolding turned
-returns c = (λ i. record { progress = c .pass .ensures i; event = Passed }) ∙ sym (ap (turned _ _) (c .before .enum-told .given .1))
+returns c = c .pass .ensures ∙ sym (ap (turned _ _) (c .before .enum-told .given .1))
 
 returns-2 : tie.Need-returns-2
 unfolding turned
-returns-2 c = (λ i. record { progress = c .hold .ensures i; event = Held }) ∙ sym (ap (turned _ _) (c .before .before .turn .given .1))
+returns-2 c = c .hold .ensures ∙ sym (ap (turned _ _) (c .before .before .turn .given .1))
 
 returns-3 : tie.Need-returns-3
 unfolding turned
-returns-3 c = (λ i. record { progress = c .lose .ensures i; event = Lost }) ∙ sym (ap (turned _ _) (c .before .enum-told2 .given .1))
+returns-3 c = c .lose .ensures ∙ sym (ap (turned _ _) (c .before .enum-told2 .given .1))
 
 returns-4 : tie.Need-returns-4
 unfolding turned
-returns-4 c = (λ i. record { progress = c .finish .ensures i; event = Finished }) ∙ sym (ap (turned _ _) (c .before .before .turn2 .given .1))
+returns-4 c = c .finish .ensures ∙ sym (ap (turned _ _) (c .before .before .turn2 .given .1))
 
 returns-5 : tie.Need-returns-5
 unfolding turned
-returns-5 c = sym (ap (turned _ _) (c .enum-told3 .given .1))
+returns-5 c = c .keep .ensures ∙ sym (ap (turned _ _) (c .before .enum-told3 .given .1))
 
 pub turn-spec : {M : Type 1} → statement M
 turn-spec =
@@ -67,6 +69,7 @@ turn-spec =
     enum-known-turn-2
     finish-requires
     enum-told-3
+    keep-requires
     returns
     returns-2
     returns-3

@@ -1,0 +1,14 @@
+-- `faults::is_exponent_wrong` meets its contract.
+-- Assumes nothing.
+use borrow.Author.Tests.{lt-ltb, le-ltb}
+use Rattle.faults.proofs.is_exponent_wrong.Statement.{statement}
+use Rattle.faults.proofs.is_exponent_wrong.Tie as tie
+
+returns : tie.Need-returns
+returns c = rw (lt-ltb _ _ (c .if1 .taken))
+
+returns-2 : tie.Need-returns-2
+returns-2 c = rw (le-ltb _ _ (c .if1 .left))
+
+pub is-exponent-wrong-spec : {M : Type 1} → statement M
+is-exponent-wrong-spec = tie.close (tie.spec returns returns-2)

@@ -1,0 +1,122 @@
+// Why a record with a known mark is turned away (document 01, "The run file"): the number of the first
+// condition that it meets, in table order, 0 for none, by a function for each mark. What is read is
+// the rest of the file, from the record on, at offsets that are known here, so that one test of its
+// length serves them all. Every function takes every rest and every position.
+ghost use mathlib.Core.Path.{_≡_};
+ghost use mathlib.Core.Bool.{_||_};
+ghost use Prim.Native.Nat.{_+_};
+ghost use lib.Dec.{eqb, leb, ltb};
+ghost use Rattle.faults.specs.Faults.{faultOf};
+use mark::byte_at;
+use mark::may_follow;
+use mark::pair_at;
+use semantics::Mark;
+use semantics::Position;
+
+// The limits of document 01, "Cells, rows, schedule".
+const MOST_OPERATIONS: usize = 64;
+
+const MOST_ENTRIES: usize = 16384;
+
+// 11, of a TB record: its exponent is not one of 3 to 12.
+fn is_exponent_wrong(k: u8) -> bool
+    ensures { λ r. ⌜ r ≡ (ltb k 3 || ltb 12 k) ⌝ }
+{
+    k < 3 || 12 < k
+}
+
+// 11, of a CL record: its cell is not above the cells of the records before it, or not in the table,
+// or its key is 0.
+fn is_cell_wrong(cell: u16, lowest: usize, size: usize, key: u16) -> bool
+    ensures { λ r. ⌜ r ≡ (ltb cell lowest || leb size cell || eqb key 0) ⌝ }
+{
+    let cell = cell as usize;
+    if cell < lowest {
+        return true;
+    }
+    if size <= cell {
+        return true;
+    }
+    key == 0
+}
+
+// 2, of an SC record: some entries too many. No position that was reached has more than 16,384
+// entries, but one may be handed in.
+fn is_past_most(entries: usize, count: u8) -> bool
+    ensures { λ r. ⌜ r ≡ ltb 16384 (entries + count) ⌝ }
+{
+    if MOST_ENTRIES < entries {
+        return true;
+    }
+    MOST_ENTRIES - entries < (count as usize)
+}
+
+// Order, size, body and limit of each mark, in table order.
+pub fn table_fault(rest: &[u8], position: Position) -> u32
+    ensures { λ r. ⌜ r ≡ faultOf (now (rest .entry)) position Mark.Table ⌝ }
+{
+    if may_follow(position.part, 1) {
+        if rest.len() < 3 {
+            return 10;
+        }
+        if is_exponent_wrong(byte_at(rest, 2)) {
+            return 11;
+        }
+        return 0;
+    }
+    9
+}
+
+pub fn cell_fault(rest: &[u8], position: Position) -> u32
+    ensures { λ r. ⌜ r ≡ faultOf (now (rest .entry)) position Mark.Cell ⌝ }
+{
+    if may_follow(position.part, 2) {
+        if rest.len() < 8 {
+            return 10;
+        }
+        if is_cell_wrong(
+            pair_at(rest, 2),
+            position.lowest,
+            position.size,
+            pair_at(rest, 4),
+        ) {
+            return 11;
+        }
+        return 0;
+    }
+    9
+}
+
+pub fn operation_fault(rest: &[u8], position: Position) -> u32
+    ensures { λ r. ⌜ r ≡ faultOf (now (rest .entry)) position Mark.Operation ⌝ }
+{
+    if may_follow(position.part, 3) {
+        if rest.len() < 7 {
+            return 10;
+        }
+        if MOST_OPERATIONS <= position.operations {
+            return 2;
+        }
+        return 0;
+    }
+    9
+}
+
+pub fn schedule_fault(rest: &[u8], position: Position) -> u32
+    ensures { λ r. ⌜ r ≡ faultOf (now (rest .entry)) position Mark.Schedule ⌝ }
+{
+    if may_follow(position.part, 4) {
+        let count = byte_at(rest, 2);
+        if rest.len() < 3 + (count as usize) {
+            return 10;
+        }
+        if count == 0 {
+            return 11;
+        }
+        if is_past_most(position.entries, count) {
+            return 2;
+        }
+        return 0;
+    }
+    9
+}

@@ -1,0 +1,11 @@
+-- `record::start` meets its contract: it makes the very position.
+-- Assumes nothing.
+use mathlib.Core.Path.{refl}
+use Rattle.record.proofs.start.Statement.{statement}
+use Rattle.record.proofs.start.Tie as tie
+
+returns : tie.Need-returns
+returns c = refl
+
+pub start-spec : {M : Type 1} → statement M
+start-spec = tie.close (tie.spec returns)

@@ -1,0 +1,15 @@
+-- `word::lower_half` meets its contract: the mask is 2 ^ 16 - 1.
+-- Assumes nothing.
+use lib.Bits.{and-mask, and-le-r}
+use mir.Facts.{fits-le, fits-lit}
+use Rattle.word.proofs.lower_half.Statement.{statement}
+use Rattle.word.proofs.lower_half.Tie as tie
+
+cast-result : tie.Need-cast-result
+cast-result c = fits-le (and-le-r (c .args .w) _) (fits-lit tt)
+
+returns : tie.Need-returns
+returns c = and-mask (c .args .w) 16
+
+pub lower-half-spec : {M : Type 1} → statement M
+lower-half-spec = tie.close (tie.spec cast-result returns)
