@@ -9,22 +9,22 @@ use native.Mathlib.Omega.{arith}
 use lib.Dec.{T, eqb, leb, eqb→eq, eqb-refl}
 use lib.Pow.{pow-add, pow-pos, pow-mono, shr-lt}
 use Rattle.semantics.specs.Basics.{any}
-use Rattle.semantics.specs.Totals.{Total, heldAt, plusAt, amounts, anyPinned, sumAt, sameTotal, narrow, narrowCeiling}
+use Rattle.semantics.specs.Totals.{Total, heldAt, plusAt, amounts, anySaturated, sumAt, sameTotal, narrow, narrowCeiling}
 use Rattle.semantics.specs.Words.{isPowerFrom, sizeAllowed, homeIn, narrowSetting, roomSum}
 use Rattle.semantics.proofs.Laws.{Lawful}
 use Rattle.semantics.proofs.Tests.{compared, same-test, beq-refl, beq-sound, absorbs, join, both, either, left, right}
 
 pub same-total-refl : (t : Total) → T (sameTotal t t)
 unfolding sameTotal
-same-total-refl t = join (eqb (t .amount) (t .amount)) (Bool·beq (t .pinned) (t .pinned)) (eqb-refl (t .amount)) (beq-refl (t .pinned))
+same-total-refl t = join (eqb (t .amount) (t .amount)) (Bool·beq (t .saturated) (t .saturated)) (eqb-refl (t .amount)) (beq-refl (t .saturated))
 
 pub same-total-sound : (t u : Total) → T (sameTotal t u) → t ≡ u
 unfolding sameTotal
 same-total-sound t u h =
-    let (a, p) = both (eqb (t .amount) (u .amount)) (Bool·beq (t .pinned) (u .pinned)) h in
+    let (a, p) = both (eqb (t .amount) (u .amount)) (Bool·beq (t .saturated) (u .saturated)) h in
     let e = eqb→eq (t .amount) (u .amount) a in
-    let f = beq-sound (t .pinned) (u .pinned) p in
-    λ i. record { amount = e i; pinned = f i }
+    let f = beq-sound (t .saturated) (u .saturated) p in
+    λ i. record { amount = e i; saturated = f i }
 
 module _ (ceiling : ℕ) where
   reached-again : (n m : ℕ) (p q : Bool) → (p || leb ceiling n || q || leb ceiling (min n ceiling + m)) ≡ (p || q || leb ceiling (n + m))
@@ -36,29 +36,29 @@ module _ (ceiling : ℕ) where
 
   -- what is held, and then held again with more, is held once with all of it
   pub held-again : (n m : ℕ) (p q : Bool)
-      → heldAt ceiling (heldAt ceiling n p .amount + m) (heldAt ceiling n p .pinned || q) ≡ heldAt ceiling (n + m) (p || q)
+      → heldAt ceiling (heldAt ceiling n p .amount + m) (heldAt ceiling n p .saturated || q) ≡ heldAt ceiling (n + m) (p || q)
   unfolding heldAt
   held-again n m p q =
       let e : min (min n ceiling + m) ceiling ≡ min (n + m) ceiling = omega arith in
       let f = reached-again n m p q in
-      λ i. record { amount = e i; pinned = f i }
+      λ i. record { amount = e i; saturated = f i }
 
   pub plus-comm : (t u : Total) → plusAt ceiling t u ≡ plusAt ceiling u t
   unfolding plusAt
-  plus-comm t u = ap₂ (heldAt ceiling) (omega arith) (or-comm (t .pinned) (u .pinned))
+  plus-comm t u = ap₂ (heldAt ceiling) (omega arith) (or-comm (t .saturated) (u .saturated))
 
   pub plus-assoc : (t u v : Total) → plusAt ceiling (plusAt ceiling t u) v ≡ plusAt ceiling t (plusAt ceiling u v)
   unfolding plusAt
   plus-assoc t u v =
       rw (plus-comm t (plusAt ceiling u v))
-      (simp held-again (ap₂ (heldAt ceiling) (omega arith) (or-assoc (t .pinned) (u .pinned) (v .pinned) ∙ or-comm (t .pinned) (u .pinned || v .pinned))))
+      (simp held-again (ap₂ (heldAt ceiling) (omega arith) (or-assoc (t .saturated) (u .saturated) (v .saturated) ∙ or-comm (t .saturated) (u .saturated || v .saturated))))
 
   pub sum-none : (t : Total) → sumAt ceiling t [] ≡ t
   unfolding sumAt
   sum-none t = refl
 
   pub sum-more : (t a : Total) (more : List Total) → sumAt ceiling t (a ∷ more) ≡ sumAt ceiling (plusAt ceiling t a) more
-  unfolding sumAt plusAt amounts anyPinned any
+  unfolding sumAt plusAt amounts anySaturated any
   sum-more t a [] = ap₂ (heldAt ceiling) (omega arith) (rw or-false)
   sum-more t a (b ∷ more) = simp (held-again, or-assoc, add-assoc)
 
@@ -71,7 +71,7 @@ narrow-reached a b =
 
 pub narrow-plus : (a b : ℕ) → plusAt narrowCeiling (narrow a) (narrow b) ≡ narrow (min (a + b) narrowCeiling)
 unfolding plusAt heldAt narrow
-narrow-plus a b = let f = narrow-reached a b in λ i. record { amount = min (a + b) narrowCeiling; pinned = f i }
+narrow-plus a b = let f = narrow-reached a b in λ i. record { amount = min (a + b) narrowCeiling; saturated = f i }
 
 pub room-sum : (a b : ℕ) → roomSum a b ≡ min (a + b) narrowCeiling
 unfolding roomSum plusAt heldAt narrow

@@ -63,7 +63,7 @@ resultOf j =
 pub data Case : Type 0 where
   -- the home of a key in c cells
   homeIs : ℕ → ℕ → ℕ → Case
-  -- the sum of two totals, and whether it is pinned
+  -- the sum of two totals, and whether it is saturated
   sumIs : ℕ → ℕ → ℕ → Bool → Case
   -- what a run leaves
   leaves : Contents → Left → Case
@@ -86,7 +86,7 @@ leftBy number place l r =
 
 unfoldable pub holds : Case → Bool
 holds (homeIs k c h) = eqb (roomHome k c) h
-holds (sumIs a b s p) = eqb (roomSum a b) s && Bool·beq (plusAt narrowCeiling (narrow a) (narrow b) .pinned) p
+holds (sumIs a b s p) = eqb (roomSum a b) s && Bool·beq (plusAt narrowCeiling (narrow a) (narrow b) .saturated) p
 holds (leaves j l) = leftBy 0 0 l (resultOf j)
 holds (refused cells number place) = leftBy number place (left cells [] [] 0 0 0) (resultOf (job cells [] []))
 holds (writes file expected) = sameList (response file) expected
@@ -176,7 +176,7 @@ cases =
     ∷ refused (table 12 []) 1 0
     ∷ []
 
--- A longer run than the document's: 16 cells with a tombstone and a pinned room, ten operations that take turns eight times. Rooms 9 and 17
+-- A longer run than the document's: 16 cells with a tombstone and a saturated total, ten operations that take turns eight times. Rooms 9 and 17
 -- begin at the tombstone, 55 and 42 pass the end of the table, and four swaps are lost.
 abbrev rounds : ℕ → List ℕ → List ℕ
 rounds zero l = []
