@@ -9,6 +9,7 @@ use terms::put_total;
 use text::put;
 use text::put_bytes;
 use text::put_labelled;
+use word::TOMBSTONE;
 use word::cell_key;
 use word::cell_total;
 
@@ -16,7 +17,7 @@ use word::cell_total;
 fn put_contents(out: &mut [u8], at: usize, w: u32) -> usize
     ensures { λ r. ⌜ written (record { at = at; out = now (out .entry) }) (contentsText w) ≡ record { at = r; out = now (out .exit) } ⌝ }
 {
-    if w == 0xffff0000 {
+    if w == TOMBSTONE {
         return put_bytes(out, at, b" gone");
     }
     let at1 = put_labelled(out, at, b" ", cell_key(w) as u64);

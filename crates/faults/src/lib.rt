@@ -10,13 +10,10 @@ ghost use Rattle.faults.specs.Faults.{faultOf};
 use mark::byte_at;
 use mark::may_follow;
 use mark::pair_at;
+use semantics::MOST_ENTRIES;
+use semantics::MOST_OPERATIONS;
 use semantics::Mark;
 use semantics::Position;
-
-// The limits of document 01, "Cells, rows, schedule".
-const MOST_OPERATIONS: usize = 64;
-
-const MOST_ENTRIES: usize = 16384;
 
 // 11, of a TB record: its exponent is not one of 3 to 12.
 fn is_exponent_wrong(k: u8) -> bool

@@ -2,8 +2,9 @@
 // schedule"); room_home and room_sum are the two functions that the load module calls. Every function
 // takes every input.
 ghost use mathlib.Core.Path.{_≡_};
+ghost use mathlib.Core.Bool.{true};
 ghost use Prim.Native.Nat.{_*_, _/_, _%_};
-ghost use Rattle.semantics.specs.Words.{isPowerFrom, sizeAllowed, roomHome, roomSum};
+ghost use Rattle.semantics.specs.Words.{isPowerFrom, sizeAllowed, homeIn, roomHome, roomSum};
 use word::is_live;
 
 // Whether c is one of n powers of two, 2^low the lowest: one bit of c is set, and the zeros below
@@ -27,10 +28,12 @@ pub fn size_allowed(c: usize) -> bool
     is_power_from(3, 10, c)
 }
 
-// A key's hash, one of 65,536, scaled to c cells: where the size is allowed, the key's home. No quotient
-// by another number than 65,536 is taken, and none by 0.
+// The home of a key in c cells, as its hash, one of 65,536, scaled to c: no quotient by a number that is
+// handed in is taken. Document 01 gives homes for allowed sizes alone; the first clause says what any
+// other size gets.
 pub fn home(key: u16, c: u32) -> u32
-    ensures { λ r. ⌜ r ≡ key * 40503 % 65536 * c / 65536 ⌝ }
+    ensures scaled { λ r. ⌜ r ≡ key * 40503 % 65536 * c / 65536 ⌝ }
+    ensures home { λ r. ⌜ (sizeAllowed c ≡ true → r ≡ homeIn c key) ⌝ }
 {
     let hash = (key as u64) * 40503 % 65536;
     (hash * (c as u64) / 65536) as u32

@@ -9,6 +9,10 @@ use operation::operation_amount;
 use operation::operation_key;
 use operation::operation_kind;
 use room::room_sum;
+use word::CHANGED;
+use word::FOUND;
+use word::PRESENT;
+use word::REMOVED;
 use word::answer_word;
 use word::cell_total;
 use word::cell_word;
@@ -22,15 +26,6 @@ pub struct Rule {
     pub word: u32,
     pub answer: u32,
 }
-
-// Document 01's answer codes of answers with a total.
-const FOUND: u8 = 1;
-
-const PRESENT: u8 = 3;
-
-const CHANGED: u8 = 4;
-
-const REMOVED: u8 = 5;
 
 // Whether an operation's kind is one of the five: rule_of knows its rule.
 pub fn is_known(operation: u64) -> bool

@@ -18,19 +18,15 @@ use operation::operation_word;
 use record::fault_at;
 use record::start;
 use semantics::Loaded;
+use semantics::MOST_CELLS;
+use semantics::MOST_ENTRIES;
+use semantics::MOST_OPERATIONS;
 use semantics::Mark;
 use semantics::Position;
 use semantics::Refusal;
 use word::cell_word;
 
-// The limits of document 01: "lent slices for at least 4,096 cells, 64 rows and 16,384 entries", and
-// a file of at most 65,535 bytes.
-const MOST_CELLS: usize = 4096;
-
-const MOST_OPERATIONS: usize = 64;
-
-const MOST_ENTRIES: usize = 16384;
-
+// A file has at most 65,535 bytes.
 const MOST_BYTES: usize = 65535;
 
 // What stands in a record that is whole: its mark, the word of the cell that a CL record names, and of

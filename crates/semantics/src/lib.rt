@@ -1,6 +1,13 @@
 // What the model returns, declared below every definition so that the definitions name the very
 // types that the code returns. This crate has no function: document 01 is stated in specs/.
 
+// The limits of document 01: what a run takes, and what a reader of run files is lent room for.
+pub const MOST_CELLS: usize = 4096;
+
+pub const MOST_OPERATIONS: usize = 64;
+
+pub const MOST_ENTRIES: usize = 16384;
+
 // Why a call is turned away: document 01's number of the refusal, and its place. An accepted call
 // has number 0 and place 0.
 pub struct Refusal {

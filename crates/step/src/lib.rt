@@ -8,8 +8,8 @@ ghost use lib.ListN.{set};
 ghost use Rattle.step.specs.Progress.{passing, holding, losing, finishing, turned, turnEvent, taken, isPending, stepTaken};
 use turn::Taken;
 use turn::Turn;
-use turn::look;
-use turn::swap;
+use turn::compare_and_swap;
+use turn::read;
 
 // How far an operation has come (document 01: a row's record): the cell that it reads next, how
 // many cells it has passed, the word that it holds if it holds one, and its answer, 0 until it
@@ -161,9 +161,9 @@ fn take(operation: u64, c: usize, progress: Progress, word: u32) -> Taken
     ensures { λ r. ⌜ r ≡ taken c operation progress word ⌝ }
 {
     if progress.holds {
-        return swap(operation, progress.held, word);
+        return compare_and_swap(operation, progress.held, word);
     }
-    look(operation, c, progress.passed, word)
+    read(operation, c, progress.passed, word)
 }
 
 // One step of an operation, by value: the cell at which its record stands is read, and at most that

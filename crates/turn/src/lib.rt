@@ -35,12 +35,12 @@ pub struct Taken {
     pub turn: Turn,
 }
 
-// Document 01's answers that carry no total.
-const INSERTED: u32 = 2 * 65536;
+// The answers that carry no total: their codes alone.
+const INSERTED: u32 = (word::INSERTED as u32) * 65536;
 
-const ABSENT: u32 = 6 * 65536;
+const ABSENT: u32 = (word::ABSENT as u32) * 65536;
 
-const FULL: u32 = 7 * 65536;
+const FULL: u32 = (word::FULL as u32) * 65536;
 
 // Whether a word is a cell of the operation's key, which is live.
 fn is_own(operation: u64, word: u32) -> bool
@@ -91,7 +91,7 @@ fn missing(operation: u64, word: u32) -> Turn
 }
 
 // A read of a word, with some of c cells passed before it. Most reads pass on, and those need no rule.
-fn read(operation: u64, c: usize, passed: usize, word: u32) -> Turn
+fn read_turn(operation: u64, c: usize, passed: usize, word: u32) -> Turn
     requires { ⌜ isKind (kindBits operation) ≡ true ⌝ }
     ensures { λ r. ⌜ r ≡ readTurn c operation passed word ⌝ }
 {
@@ -108,13 +108,13 @@ fn read(operation: u64, c: usize, passed: usize, word: u32) -> Turn
 }
 
 // A read: the word stays as it is.
-pub fn look(operation: u64, c: usize, passed: usize, word: u32) -> Taken
+pub fn read(operation: u64, c: usize, passed: usize, word: u32) -> Taken
     ensures { λ r. ⌜ r ≡ readIf c operation (isKind (kindBits operation)) passed word ⌝ }
 {
     if is_known(operation) {
         return Taken {
             word: word,
-            turn: read(operation, c, passed, word),
+            turn: read_turn(operation, c, passed, word),
         };
     }
     Taken {
@@ -142,7 +142,7 @@ fn won(operation: u64, held: u32, rule: Rule) -> Taken
 
 // A compare-and-swap: the cell is stored if it still equals the held word. It is the same in a table
 // of any size.
-pub fn swap(operation: u64, held: u32, word: u32) -> Taken
+pub fn compare_and_swap(operation: u64, held: u32, word: u32) -> Taken
     ensures { λ r. ⌜ ((c : ℕ) → r ≡ swapIf c operation (isKind (kindBits operation)) held word) ⌝ }
 {
     let rule = rule_of(operation, held);

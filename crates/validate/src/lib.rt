@@ -1,13 +1,10 @@
 // The run's refusals 1 to 8 (document 01, "Where a call is turned away"), judged in table order: those
 // of the slices here, then those of the words and those of the whole table.
+use semantics::MOST_ENTRIES;
+use semantics::MOST_OPERATIONS;
 use semantics::Refusal;
 ghost use mathlib.Core.Path.{_≡_};
 ghost use Rattle.semantics.specs.Refusals.{callOf, firstMet, slicesConditions, runRefusal};
-
-// The limits of document 01, "Cells, rows, schedule".
-const MOST_OPERATIONS: usize = 64;
-
-const MOST_ENTRIES: usize = 16384;
 
 // The conditions on the slices, by number alone since their place is 0: 1, the size of the table; 2,
 // too many operations or entries; 3, too short a slice for the answers or the log.

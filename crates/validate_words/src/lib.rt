@@ -10,9 +10,6 @@ ghost use Rattle.semantics.specs.Basics.{firstBelow};
 ghost use Rattle.semantics.specs.Words.{cellAllowed, takesAmount, isKind, operationAllowed};
 ghost use Rattle.semantics.specs.Refusals.{callOf, firstMet, wordsConditions};
 
-// The word of a tombstone: key 65,535 with total 0.
-const TOMBSTONE: u32 = 65535 * 65536;
-
 // 4: whether a cell may start with word w: a live key with any total, the empty word, or a tombstone.
 fn cell_allowed(w: u32) -> bool
     ensures { λ r. ⌜ r ≡ cellAllowed w ⌝ }
@@ -23,7 +20,7 @@ fn cell_allowed(w: u32) -> bool
     if w == 0 {
         return true;
     }
-    w == TOMBSTONE
+    w == word::TOMBSTONE
 }
 
 fn first_bad_cell(cells: &[u32]) -> usize

@@ -5,6 +5,24 @@ ghost use mathlib.Core.Path.{_≡_};
 ghost use Prim.Native.Nat.{_+_, _*_, _/_, _%_};
 ghost use Rattle.semantics.specs.Words.{keyOf, totalBits, isLiveKey};
 
+// Document 01's codes of the answers, 0 for an unfinished operation; and the word of a tombstone, key
+// 65,535 with total 0.
+pub const FOUND: u8 = 1;
+
+pub const INSERTED: u8 = 2;
+
+pub const PRESENT: u8 = 3;
+
+pub const CHANGED: u8 = 4;
+
+pub const REMOVED: u8 = 5;
+
+pub const ABSENT: u8 = 6;
+
+pub const FULL: u8 = 7;
+
+pub const TOMBSTONE: u32 = 65535 * 65536;
+
 // Sixteen bits above sixteen: the layout of a cell and of an answer.
 fn upper_half(w: u32) -> u16
     ensures { λ r. ⌜ r ≡ w / 65536 ⌝ }

@@ -1,9 +1,13 @@
--- `room::home` meets its contract: a hash has sixteen bits and c has 32, so their product fits, and no home is above c.
+-- `room::home` meets its contract: a hash has sixteen bits and c has 32, so their product fits, and no home is above c; over
+-- a power of two it is the document's quotient.
 -- Assumes nothing.
+use mathlib.Core.Path.{refl}
 use Prim.Native.Nat.{ℕ, _*_, _%_, _≤_}
 use native.Mathlib.Nat.{mul-le-mul-right}
 use native.Mathlib.Omega.{arith}
 use borrow.Author.Needs.{needs}
+use Rattle.semantics.proofs.Tests.{true-T}
+use Rattle.room.proofs.Powers.{home-is}
 use Rattle.room.proofs.home.Statement.{statement}
 use Rattle.room.proofs.home.Tie as tie
 
@@ -20,7 +24,7 @@ cast-result : tie.Need-cast-result
 cast-result c = record { fits = omega (arith, product (c .args .key) (c .args .c), c .fits .c .fits) }
 
 returns : tie.Need-returns
-returns c = search needs
+returns c = (refl, λ h. home-is _ _ (true-T _ h))
 
 pub home-spec : {M : Type 1} → statement M
 home-spec = tie.close (tie.spec mul-hash mul-result cast-result returns)

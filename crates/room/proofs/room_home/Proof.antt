@@ -7,7 +7,6 @@ use borrow.Author.Needs.{needs}
 use Rattle.semantics.specs.Words.{isLiveKey, sizeAllowed, roomHome}
 use Rattle.semantics.proofs.Tests.{true-T}
 use Rattle.semantics.proofs.Words.{live-bounds}
-use Rattle.room.proofs.Powers.{home-is}
 use Rattle.room.proofs.room_home.Statement.{statement}
 use Rattle.room.proofs.room_home.Tie as tie
 
@@ -31,7 +30,7 @@ home-requires c κs = search needs
 
 returns : tie.Need-returns
 unfolding roomHome
-returns c = rw (sized (c .before), live (c .before)) (c .home .ensures ∙ home-is _ _ (true-T _ (sized (c .before))))
+returns c = rw (sized (c .before), live (c .before)) (c .home .ensures .1 (sized (c .before)))
 
 returns-2 : tie.Need-returns-2
 unfolding roomHome

@@ -6,17 +6,17 @@ use Rattle.step.proofs.Steps.{taken-swaps, taken-reads}
 use Rattle.step.proofs.take.Statement.{statement}
 use Rattle.step.proofs.take.Tie as tie
 
-swap-requires : tie.Need-swap-requires
-swap-requires c κs = search needs
+compare-and-swap-requires : tie.Need-compare-and-swap-requires
+compare-and-swap-requires c κs = search needs
 
 returns : tie.Need-returns
-returns c = c .swap .ensures _ ∙ taken-swaps _ _ _ _ (c .before .if1 .taken)
+returns c = c .compare-and-swap .ensures _ ∙ taken-swaps _ _ _ _ (c .before .if1 .taken)
 
-look-requires : tie.Need-look-requires
-look-requires c κs = search needs
+read-requires : tie.Need-read-requires
+read-requires c κs = search needs
 
 returns-2 : tie.Need-returns-2
-returns-2 c = c .look .ensures ∙ taken-reads _ _ _ _ (c .before .if1 .left)
+returns-2 c = c .read .ensures ∙ taken-reads _ _ _ _ (c .before .if1 .left)
 
 pub take-spec : {M : Type 1} → statement M
-take-spec = tie.close (tie.spec swap-requires returns look-requires returns-2)
+take-spec = tie.close (tie.spec compare-and-swap-requires returns read-requires returns-2)

@@ -6,7 +6,6 @@ use native.Mathlib.Omega.{arith}
 use Rattle.semantics.specs.Words.{isLiveKey, keyOf, homeIn}
 use Rattle.semantics.proofs.Tests.{true-T}
 use Rattle.semantics.proofs.Narrow.{allowed-bounds, allowed-lawful}
-use Rattle.room.proofs.Powers.{home-is}
 use Rattle.validate_table.proofs.Filled.{before-ahead, before-around}
 use borrow.Author.Needs.{needs}
 use Rattle.validate_table.proofs.is_cut_off.Statement.{statement}
@@ -18,7 +17,7 @@ live c = ap isLiveKey (sym (c .before .cell-key .ensures)) ∙ sym (c .is-live-k
 homed : (c : tie.After-home) → let a = c .before .before .before .before .args in c .home .result ≡ homeIn (a .c) (keyOf (a .w))
 homed c =
     let start = c .before .before .before .before in
-    c .home .ensures ∙ home-is _ _ (true-T _ (start .pre .0)) ∙ ap (homeIn (start .args .c)) (c .before .before .before .cell-key .ensures)
+    c .home .ensures .1 (start .pre .0) ∙ ap (homeIn (start .args .c)) (c .before .before .before .cell-key .ensures)
 
 below : (c : tie.After-home) → c .home .result < c .before .before .before .before .args .c
 below c =

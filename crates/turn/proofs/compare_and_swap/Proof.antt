@@ -1,11 +1,11 @@
--- `turn::swap` meets its contract.
+-- `turn::compare_and_swap` meets its contract.
 -- Assumes nothing.
 use borrow.Author.Needs.{needs}
 use borrow.Author.Tests.{eq-eqb, ne-eqb}
 use Rattle.rule.proofs.Rules.{rule-if, known-is}
 use Rattle.turn.specs.Turn.{swapIf, swapTaken}
-use Rattle.turn.proofs.swap.Statement.{statement}
-use Rattle.turn.proofs.swap.Tie as tie
+use Rattle.turn.proofs.compare_and_swap.Statement.{statement}
+use Rattle.turn.proofs.compare_and_swap.Tie as tie
 
 rule-of-requires : tie.Need-rule-of-requires
 rule-of-requires c κs = search needs
@@ -30,5 +30,5 @@ returns-3 : tie.Need-returns-3
 unfolding swapIf
 returns-3 c = λ s. rw (known-is 0 _ _ (c .before .rule-of .ensures 0) (c .if1 .left))
 
-pub swap-spec : {M : Type 1} → statement M
-swap-spec = tie.close (tie.spec rule-of-requires won-requires returns returns-2 returns-3)
+pub compare-and-swap-spec : {M : Type 1} → statement M
+compare-and-swap-spec = tie.close (tie.spec rule-of-requires won-requires returns returns-2 returns-3)
