@@ -422,19 +422,21 @@ module _ {call : Call} (ok : Passed call) where
               go true = refl
               go false = H .finished-are j
 
-          pub at-finished : n ≤ length log₀ → result .event ≡ Finished → {size′ finished′ : ℕ} → size′ ≡ ones finished → finished′ ≡ including finished i
-              → Then (set answers i (result .progress .answer)) (set log size′ i) finished′ lost
+          pub at-finished : n ≤ length log₀ → result .event ≡ Finished → {answers′ log′ : List ℕ} {finished′ : ℕ}
+              → answers′ ≡ set answers i (result .progress .answer) → log′ ≡ set log (ones finished) i → finished′ ≡ including finished i
+              → Then answers′ log′ finished′ lost
           unfolding logged countLost
-          at-finished fits e sized grown =
+          at-finished fits e answers-then log-then grown =
               let is = finished-turn (stepped .turn) (sym event-is ∙ e) in
               let a = answer-from (stepped .turn) in
               let r = row-then (finishes a) in
               let long : i < length (map answerOf (m .rows)) = omega (arith, below, rows-long, length-map (m .rows) answerOf) in
               kept (finishes a) is _ _ _ lost
-              (ap₂ (λ x y. set x i y) (H .answers-are) (answer-then a is)
+              (answers-then
+              ∙ ap₂ (λ x y. set x i y) (H .answers-are) (answer-then a is)
               ∙ over-set (map answerOf (m .rows)) answers₀ i (answerOf r) long
               ∙ ap (λ l. over l answers₀) (sym (map-set answerOf (m .rows) i r)))
-              (ap₂ (λ x n. set x n i) (H .log-is) sized ∙ over-next (m .log) log₀ (ones finished) i (sym (H .size-is)) (room fits))
+              (log-then ∙ ap (λ x. set x (ones finished) i) (H .log-is) ∙ over-next (m .log) log₀ (ones finished) i (sym (H .size-is)) (room fits))
               (λ j. ap (λ f. isIn f j) grown ∙ set-grows a j)
               (ap ones grown ∙ size-including finished i (omega (arith, below, ok .few)) unfinished ∙ omega (arith, H .size-is, length-append (m .log) (i ∷ [])))
               (H .lost-is)

@@ -2,7 +2,10 @@
 // judged first, and only then is anything written; each entry then takes one step of the operation
 // that it names, or is idle.
 ghost use mathlib.Core.Path.{_≡_};
-ghost use lib.ListN.{take};
+ghost use Prim.Native.Nat.{_<_};
+ghost use lib.Count.{ones};
+ghost use lib.ListN.{length, set, take};
+ghost use Rattle.semantics.specs.Sets.{including};
 ghost use Rattle.semantics.specs.Run.{machine, refusalOf, acceptedResult, runResult, LinearizableWords, TotalsWords};
 use advance::take_step;
 use begin::begin;
@@ -15,6 +18,19 @@ use sets::size;
 use sets::with;
 use step::Event;
 use validate::validate;
+
+// An operation finishes: its answer is written, and it enters the log behind those that finished before
+// it. Gives the set of finished operations with it.
+fn finish(answers: &mut [u32], log: &mut [u8], finished: u64, entry: u8, answer: u32) -> u64
+    requires { ⌜ (entry < length (now answers)) × (ones finished < length (now log)) ⌝ }
+    ensures { λ r. ⌜ (r ≡ including finished entry)
+        × (now (answers .exit) ≡ set (now (answers .entry)) entry answer)
+        × (now (log .exit) ≡ set (now (log .entry)) (ones finished) entry) ⌝ }
+{
+    answers[entry as usize] = answer;
+    log[size(finished)] = entry;
+    with(finished, entry)
+}
 
 // Takes the schedule's entries in turn, on a call that is not turned away.
 fn entries(
@@ -54,18 +70,14 @@ fn entries(
         records[i] = progress;
         match event {
             Event::Finished => {
-                answers[i] = progress.answer;
-                log[size(finished)] = entry;
-                finished = with(finished, entry);
+                finished = finish(answers, log, finished, entry, progress.answer);
                 continue;
             }
             Event::Lost => {
                 lost = lost + 1;
                 continue;
             }
-            _ => {
-                continue;
-            }
+            _ => continue,
         }
     }
     made(finished, lost, idle)

@@ -143,45 +143,28 @@ array-set-from-records c = small (c .before .before .before .before .before .bef
 enum-told : tie.Need-enum-told Inv-loop μ-loop
 enum-told c = search needs
 
-mul-answers : tie.Need-mul-answers Inv-loop μ-loop
-mul-answers c = record { fits = omega (arith, small (c .before .before .before .before .before .before .before .before .before)) }
-
-slice-write-answers : tie.Need-slice-write-answers Inv-loop μ-loop
-slice-write-answers c =
-    let a = turn (c .before .before .before .before .before .before .before .before .before) .before in
-    let fits = ok (start a) .answers in
-    omega (arith, entry-below (c .before .before .before .before .before .before .before .before .before), answers-long (ok (start a)) (a .loop .inv .1) (omega (arith, cleared-long a, fits)), cleared-long a, fits)
-
-size-requires : tie.Need-size-requires Inv-loop μ-loop
-size-requires c κs = search needs
-
-slice-write-log : tie.Need-slice-write-log Inv-loop μ-loop
-slice-write-log c =
-    let e = c .before .before .before .before .before .before .before .before .before .before in
+finish-requires : tie.Need-finish-requires Inv-loop μ-loop
+finish-requires c κs =
+    let e = c .before .before .before .before .before .before .before .before .before .before .before in
     let a = turn e .before in
-    let o = ok (start a) in
-    omega (
-      arith,
-      c .size .ensures,
-      log-long o (a .loop .inv .1) (o .log),
-      room o (a .loop .inv .1) (turn e .loop-test .taken) refl (begun 0) (unfinished e) (o .log),
+    let o = ok (start a) in (
+      omega (arith, entry-below e, answers-long o (a .loop .inv .1) (omega (arith, cleared-long a, o .answers)), cleared-long a, o .answers),
+      omega (arith, log-long o (a .loop .inv .1) (o .log), room o (a .loop .inv .1) (turn e .loop-test .taken) refl (begun 0) (unfinished e) (o .log)),
     )
-
-with-requires : tie.Need-with-requires Inv-loop μ-loop
-with-requires c κs = search needs
 
 loop-less-2 : tie.Need-loop-less-2 Inv-loop μ-loop
 loop-less-2 c = search needs
 
 loop-again-2 : tie.Need-loop-again-2 Inv-loop μ-loop
 loop-again-2 c =
-    let taken = c .before .before .before .before .before .before .before in
+    let taken = c .before .before .before .before .before .before .before .before .before .before .before .before in
     let e = taken .before .before .before .before in
     let a = turn e .before in
-    let o = ok (start a) in (
+    let o = ok (start a) in
+    let done = c .before .before .before .before .finish .ensures in (
       omega (arith, turn e .loop-test .taken),
       at-finished o (a .loop .inv .1) (turn e .loop-test .taken) refl _ (unfinished e) (taken .take-step .ensures .0) (taken .take-step .ensures .1) (o .log)
-          (c .before .before .enum-told .given .1) (c .before .size .ensures) (c .with .ensures),
+          (c .before .before .before .before .before .before .before .enum-told .given .1) (done .1) (done .2) (done .0),
     )
 
 enum-told-2 : tie.Need-enum-told-2 Inv-loop μ-loop
@@ -267,11 +250,7 @@ entries-spec =
     mul-records
     array-set-from-records
     enum-told
-    mul-answers
-    slice-write-answers
-    size-requires
-    slice-write-log
-    with-requires
+    finish-requires
     loop-less-2
     loop-again-2
     enum-told-2
