@@ -1,15 +1,19 @@
 -- Words: their letters, and those of kinds, codes and totals by the number.
 -- Assumes nothing.
 use mathlib.Core.Path.{_≡_, refl, ap, _∙_}
-use Prim.Native.Nat.{ℕ, zero, suc, _+_, _*_, _≤_, _<_}
-use mathlib.Core.List.{List, [], _∷_}
+use Prim.Native.Nat.{ℕ, zero, suc, _+_, _-_, _*_, _≤_, _<_}
+use mathlib.Core.List.{List, [], _∷_, _++_, append-assoc}
+use mathlib.Core.Bool.{Bool, not, _&&_}
 use native.Mathlib.Numerals.{add-one}
 use native.Mathlib.Omega.{arith}
-use lib.ListN.{length, getD, drop, drop-of-length-le}
-use lib.Seq.{drop-cons}
-use borrow.Author.Tests.{eq-eqb, ne-eqb}
+use lib.Dec.{T, eqb, ltb}
+use lib.ListN.{length, getD, drop, replicate, drop-of-length-le, length-append, length-replicate}
+use lib.Seq.{drop-cons, drop-append-add}
+use borrow.Author.Tests.{eq-eqb, ne-eqb, ltb-true, not-true}
+use Rattle.semantics.specs.Basics.{all}
 use Rattle.semantics.specs.Text.{text, decimal}
-use Rattle.semantics.specs.Listing.{kindWord, codeWord, totalText}
+use Rattle.semantics.specs.Listing.{kindWords, kindWord, codeWords, codeWord, totalText}
+use Rattle.semantics.proofs.Tests.{both, passed}
 use Rattle.text.specs.Writing.{Writing, written}
 use Rattle.terms.specs.Letters.{untilBlank}
 
@@ -34,34 +38,54 @@ module _ (words : List ℕ) (i : ℕ) (w : Writing) {v : Writing} (rest : v ≡ 
   unfolding written
   at-end all = rest ∙ ap (written w) (no-letters words i all)
 
--- the words of kinds and of codes, eleven places each; no other number has one
-abbrev kinds : List ℕ
-kinds = text "           find       insert     update     add        remove     "
+-- A row of words, each with blanks up to eleven places. A word has at most ten letters and no blank among them.
+abbrev padded : List ℕ → List ℕ
+padded word = word ++ replicate (11 - length word) 32
 
-pub kind-letters : (n : ℕ) → untilBlank (drop (n * 11) kinds) ≡ kindWord n
-unfolding untilBlank text kindWord
-kind-letters zero = refl
-kind-letters (suc zero) = refl
-kind-letters (suc (suc zero)) = refl
-kind-letters (suc (suc (suc zero))) = refl
-kind-letters (suc (suc (suc (suc zero)))) = refl
-kind-letters (suc (suc (suc (suc (suc zero))))) = refl
-kind-letters (suc (suc (suc (suc (suc (suc n)))))) = no-letters kinds (suc (suc (suc (suc (suc (suc n))))) * 11) (omega arith)
+unfoldable row : List (List ℕ) → List ℕ
+row [] = []
+row (word ∷ more) = padded word ++ row more
 
-abbrev codes : List ℕ
-codes = text "unfinished found      inserted   present    changed    removed    absent     full       "
+abbrev isLetter : ℕ → Bool
+isLetter b = not (eqb b 32)
 
-pub code-letters : (n : ℕ) → untilBlank (drop (n * 11) codes) ≡ codeWord n
-unfolding untilBlank text codeWord
-code-letters zero = refl
-code-letters (suc zero) = refl
-code-letters (suc (suc zero)) = refl
-code-letters (suc (suc (suc zero))) = refl
-code-letters (suc (suc (suc (suc zero)))) = refl
-code-letters (suc (suc (suc (suc (suc zero))))) = refl
-code-letters (suc (suc (suc (suc (suc (suc zero)))))) = refl
-code-letters (suc (suc (suc (suc (suc (suc (suc zero))))))) = refl
-code-letters (suc (suc (suc (suc (suc (suc (suc (suc n)))))))) = no-letters codes (suc (suc (suc (suc (suc (suc (suc (suc n))))))) * 11) (omega arith)
+abbrev isWord : List ℕ → Bool
+isWord word = ltb (length word) 11 && all isLetter word
+
+letters : (word more : List ℕ) → T (all isLetter word) → untilBlank (word ++ (32 ∷ more)) ≡ word
+unfolding untilBlank all
+letters [] more h = refl
+letters (b ∷ word) more h =
+    let (first, rest) = both (isLetter b) (all isLetter word) h in
+    rw (not-true (eqb b 32) (passed (isLetter b) first)) (ap (_∷_ b) (letters word more rest))
+
+-- the word at each place of a row; past the last there is none
+word-at : (words : List (List ℕ)) → T (all isWord words) → (n : ℕ) → untilBlank (drop (n * 11) (row words)) ≡ getD words n []
+unfolding all row
+word-at [] h n = no-letters [] (n * 11) (omega arith)
+word-at (word ∷ more) h n =
+    let (is, rest) = both (isWord word) (all isWord more) h in
+    let (fits, alone) = both (ltb (length word) 11) (all isLetter word) is in
+    let short = ltb-true (length word) 11 (passed (ltb (length word) 11) fits) in
+    go n short alone (word-at more rest)
+  where
+    go : (n : ℕ) → length word < 11 → T (all isLetter word) → ((m : ℕ) → untilBlank (drop (m * 11) (row more)) ≡ getD more m [])
+        → untilBlank (drop (n * 11) (padded word ++ row more)) ≡ getD (word ∷ more) n []
+    go zero short alone others =
+        let room : 11 - length word ≡ suc (10 - length word) = omega arith in
+        rw (room, append-assoc) (letters word (replicate (10 - length word) 32 ++ row more) alone)
+    go (suc m) short alone others =
+        let past : suc m * 11 ≡ length (padded word) + m * 11 =
+        omega (arith, length-append word (replicate (11 - length word) 32), length-replicate {A = ℕ} (11 - length word) 32) in
+        rw (past, drop-append-add) (others m)
+
+pub kind-letters : (n : ℕ) → untilBlank (drop (n * 11) (text "           find       insert     update     add        remove     ")) ≡ kindWord n
+unfolding text kindWord row all
+kind-letters n = word-at kindWords tt n
+
+pub code-letters : (n : ℕ) → untilBlank (drop (n * 11) (text "unfinished found      inserted   present    changed    removed    absent     full       ")) ≡ codeWord n
+unfolding text codeWord row all
+code-letters n = word-at codeWords tt n
 
 -- a total is pinned or true
 pub pinned-is : (n : ℕ) → n ≡ 65535 → text "pinned" ≡ totalText n

@@ -1,13 +1,31 @@
 -- `validate::slices_number` meets its contract, test by test.
 -- Assumes nothing.
+use mathlib.Core.Path.{_≡_, _∙_}
 use mathlib.Core.Bool.{or-true}
+use mathlib.Core.List.{[], _∷_}
 use native.Mathlib.Omega.{arith}
 use lib.ListN.{length}
 use borrow.Author.Tests.{lt-ltb, le-ltb}
-use Rattle.semantics.specs.Refusals.{firstMet, sizeNotAllowed, tooMany, tooShort}
+use Rattle.semantics.specs.Refusals.{callOf, firstMet, slicesConditions, sizeNotAllowed, tooMany, tooShort}
 use borrow.Author.Needs.{needs}
 use Rattle.validate.proofs.slices_number.Statement.{statement}
 use Rattle.validate.proofs.slices_number.Tie as tie
+
+-- with an allowed size and neither too many operations nor too many entries, refusal 3 decides
+within : (c : tie.Else3)
+    → let a = c .before .before .before .before .before .before .before .args in
+    let call = callOf (a .cells .now) (a .operations .now) (a .schedule .now) (a .answers) (a .log) in
+    firstMet (slicesConditions call) ≡ firstMet (tooShort call ∷ [])
+unfolding firstMet sizeNotAllowed tooMany
+within c =
+    let size = c .before .before in
+    let a = size .before .before .before .before .before .args in
+    rw (
+      ← size .before .size-allowed .ensures,
+      size .if1 .taken,
+      le-ltb 64 (length (a .operations .now)) (omega (arith, c .before .if2 .left)),
+      le-ltb 16384 (length (a .schedule .now)) (omega (arith, c .if3 .left)),
+    )
 
 size-allowed-requires : tie.Need-size-allowed-requires
 size-allowed-requires c κs = search needs
@@ -30,45 +48,16 @@ returns-2 c =
     )
 
 returns-3 : tie.Need-returns-3
-unfolding firstMet sizeNotAllowed tooMany tooShort
-returns-3 c =
-    let args = c .before .before .before .before .before .before .before .before .args in
-    let size = c .before .before .before in
-    rw (
-      ← size .before .size-allowed .ensures,
-      size .if1 .taken,
-      le-ltb 64 (length (args .operations .now)) (omega (arith, c .before .before .if2 .left)),
-      le-ltb 16384 (length (args .schedule .now)) (omega (arith, c .before .if3 .left)),
-      lt-ltb _ _ (c .if4 .taken),
-    )
+unfolding firstMet tooShort
+returns-3 c = within (c .before) ∙ rw (lt-ltb _ _ (c .if4 .taken))
 
 returns-4 : tie.Need-returns-4
-unfolding firstMet sizeNotAllowed tooMany tooShort
-returns-4 c =
-    let args = c .before .before .before .before .before .before .before .before .before .args in
-    let size = c .before .before .before .before in
-    rw (
-      ← size .before .size-allowed .ensures,
-      size .if1 .taken,
-      le-ltb 64 (length (args .operations .now)) (omega (arith, c .before .before .before .if2 .left)),
-      le-ltb 16384 (length (args .schedule .now)) (omega (arith, c .before .before .if3 .left)),
-      lt-ltb _ _ (c .if5 .taken),
-      or-true,
-    )
+unfolding firstMet tooShort
+returns-4 c = within (c .before .before) ∙ rw (lt-ltb _ _ (c .if5 .taken), or-true)
 
 returns-5 : tie.Need-returns-5
-unfolding firstMet sizeNotAllowed tooMany tooShort
-returns-5 c =
-    let args = c .before .before .before .before .before .before .before .before .before .args in
-    let size = c .before .before .before .before in
-    rw (
-      ← size .before .size-allowed .ensures,
-      size .if1 .taken,
-      le-ltb 64 (length (args .operations .now)) (omega (arith, c .before .before .before .if2 .left)),
-      le-ltb 16384 (length (args .schedule .now)) (omega (arith, c .before .before .if3 .left)),
-      le-ltb _ _ (c .before .if4 .left),
-      le-ltb _ _ (c .if5 .left),
-    )
+unfolding firstMet tooShort
+returns-5 c = within (c .before .before) ∙ rw (le-ltb _ _ (c .before .if4 .left), le-ltb _ _ (c .if5 .left))
 
 returns-6 : tie.Need-returns-6
 unfolding firstMet sizeNotAllowed tooMany tooShort
