@@ -14,6 +14,8 @@ use cell_lines::put_cells;
 use lines::put_counts;
 use lines::put_refusal;
 use row_lines::put_rows;
+use semantics::MOST_CELLS;
+use semantics::MOST_OPERATIONS;
 use semantics::Outcome;
 use semantics::Written;
 use text::put;
@@ -78,9 +80,9 @@ fn put_listing(
 fn most_bytes(operations: usize, log: usize, cells: usize) -> usize
     ensures { λ r. ⌜ (r < lastPosition → (98304 ≤ r) × (operations ≤ 64) × (log ≤ 64) × (cells ≤ 4096)) ⌝ }
 {
-    if operations <= 64 {
-        if log <= 64 {
-            if cells <= 4096 {
+    if operations <= MOST_OPERATIONS {
+        if log <= MOST_OPERATIONS {
+            if cells <= MOST_CELLS {
                 return 98304;
             }
         }

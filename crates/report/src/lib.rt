@@ -11,6 +11,9 @@ use listing::list;
 use outcome::refused;
 use run::run;
 use runfile::load;
+use semantics::MOST_CELLS;
+use semantics::MOST_ENTRIES;
+use semantics::MOST_OPERATIONS;
 use semantics::Written;
 
 // Makes a run and writes its text.
@@ -36,11 +39,11 @@ pub fn report(file: &[u8], out: &mut [u8]) -> Written
     ensures suffices { λ r. ⌜ (98304 ≤ length (now (out .entry)) → r .number ≡ 0) ⌝ }
     ensures counted { λ r. ⌜ Counts (r .length) (now (out .exit)) ⌝ }
 {
-    let mut cells = [0u32; 4096];
-    let mut operations = [0u64; 64];
-    let mut schedule = [0u8; 16384];
-    let mut answers = [0u32; 64];
-    let mut log = [0u8; 64];
+    let mut cells = [0u32; MOST_CELLS];
+    let mut operations = [0u64; MOST_OPERATIONS];
+    let mut schedule = [0u8; MOST_ENTRIES];
+    let mut answers = [0u32; MOST_OPERATIONS];
+    let mut log = [0u8; MOST_OPERATIONS];
     let loaded = load(file, &mut cells, &mut operations, &mut schedule);
     if loaded.number == 0 {
         let c = loaded.cells;
