@@ -3,8 +3,8 @@
 // word, fields are taken out and put together by shifts and masks, and the contracts say each as a
 // quotient or a remainder. Every function takes every input.
 ghost use mathlib.Core.Path.{_≡_};
-ghost use Prim.Native.Nat.{_+_, _*_, _%_, _^_};
-ghost use Rattle.semantics.specs.Words.{kindBits, bitsAboveKind, operationKey, amountBits};
+ghost use Prim.Native.Nat.{_%_, _^_};
+ghost use Rattle.semantics.specs.Words.{kindBits, bitsAboveKind, operationKey, amountBits, operationWord};
 use word::cell_key;
 use word::cell_total;
 use word::cell_word;
@@ -42,7 +42,7 @@ pub fn operation_amount(w: u64) -> u16
 }
 
 pub fn operation_word(kind: u8, key: u16, amount: u16) -> u64
-    ensures { λ r. ⌜ r ≡ kind * 2 ^ 32 + key * 65536 + amount ⌝ }
+    ensures { λ r. ⌜ r ≡ operationWord kind key amount ⌝ }
 {
     ((kind as u64) << 32) | (cell_word(key, amount) as u64)
 }

@@ -2,8 +2,8 @@
 // the read rule and the new word, chosen by one match over the kind.
 ghost use mathlib.Core.Path.{_≡_};
 ghost use mathlib.Core.Bool.{true};
-ghost use Prim.Native.Nat.{ℕ, _+_, _*_};
-ghost use Rattle.semantics.specs.Words.{totalBits, kindBits, isKind};
+ghost use Prim.Native.Nat.{ℕ};
+ghost use Rattle.semantics.specs.Words.{totalBits, cellWord, packedAnswer, kindBits, isKind};
 ghost use Rattle.rule.specs.Rule.{ruleOf};
 use operation::operation_amount;
 use operation::operation_key;
@@ -69,7 +69,7 @@ pub fn rule_of(operation: u64, word: u32) -> Rule
 
 // The rule of a kind that answers a code with the old total, and stores a key with a new one.
 fn known(makes: bool, stays: bool, code: u8, old: u16, key: u16, new: u16) -> Rule
-    ensures { λ r. ⌜ r ≡ record { known = true; makes = makes; stays = stays; word = key * 65536 + new; answer = code * 65536 + old } ⌝ }
+    ensures { λ r. ⌜ r ≡ record { known = true; makes = makes; stays = stays; word = cellWord key new; answer = packedAnswer code old } ⌝ }
 {
     Rule {
         known: true,

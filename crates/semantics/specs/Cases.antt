@@ -3,28 +3,18 @@
 -- Tables have 8 cells where no other number stands. Slices for answers and log are as long as the operations, and hold 9 before a run.
 -- Assumes nothing.
 use mathlib.Core.Path.{_≡_}
-use Prim.Native.Nat.{ℕ, zero, suc, _+_, _*_, _^_}
+use Prim.Native.Nat.{ℕ, zero, suc}
 use mathlib.Core.Bool.{Bool, true, false, _&&_, Bool·beq}
 use mathlib.Core.List.{List, [], _∷_, _++_, map}
 use lib.Dec.{T, eqb}
 use lib.ListN.{length, set, replicate}
 use Rattle.semantics.specs.Totals.{plusAt, narrow, narrowCeiling}
 use Rattle.semantics.specs.TotalsRule.{onlyFindsAndAdds, CellsSuffice}
-use Rattle.semantics.specs.Words.{roomHome, roomSum, decode, decodeOperation, narrowSetting}
+use Rattle.semantics.specs.Words.{cellWord as cell, operationWord as operation, packedAnswer as answer, roomHome, roomSum, decode, decodeOperation, narrowSetting}
 use Rattle.semantics.specs.Run.{Result, runResult}
 use Rattle.semantics.specs.Text.{text}
 use Rattle.semantics.specs.RunFile.{Contents}
 use Rattle.semantics.specs.Response.{response}
-
--- words as the document's cases write them: a cell's key and total; an operation's kind, key and amount; an answer's code and total
-abbrev cell : ℕ → ℕ → ℕ
-cell k t = k * 65536 + t
-
-abbrev operation : ℕ → ℕ → ℕ → ℕ
-operation kind k amount = kind * 2 ^ 32 + k * 65536 + amount
-
-abbrev answer : ℕ → ℕ → ℕ
-answer code t = code * 65536 + t
 
 -- c cells, empty but for those named by number, key and total
 pub record Placed : Type 0 where
@@ -159,6 +149,8 @@ cases =
     -- "Cell 4 = (1, 40); rows add (1, 5), add (1, 7); schedule 0 1 0 1 1 1: changed 40, changed 45, total 52, lost 1."
     ∷ leaves (job (table 8 (at 4 1 40 ∷ [])) (operation 4 1 5 ∷ operation 4 1 7 ∷ []) (0 ∷ 1 ∷ 0 ∷ 1 ∷ 1 ∷ 1 ∷ []))
     (left (table 8 (at 4 1 52 ∷ [])) (answer 4 40 ∷ answer 4 45 ∷ []) (0 ∷ 1 ∷ []) 2 1 0)
+    -- "Keys 1 to 8 each at home fill the table." The homes of 1, 2, 5 and 8 stand above.
+    ∷ homeIs 3 8 6 ∷ homeIs 4 8 3 ∷ homeIs 6 8 5 ∷ homeIs 7 8 2
     -- "Add of key 9 is unfinished after 7 steps and full at the 8th; find of 9 is absent at the 8th." The amount is left open: 1 here.
     ∷ leaves (job fullTable (operation 4 9 1 ∷ []) (replicate 7 0)) (left fullTable (answer 0 0 ∷ []) (9 ∷ []) 0 0 0)
     ∷ leaves (job fullTable (operation 4 9 1 ∷ []) (replicate 8 0)) (left fullTable (answer 7 0 ∷ []) (0 ∷ []) 1 0 0)

@@ -1,13 +1,13 @@
 -- Document 01, "A run in full": the text of a run, or of a refusal.
 -- Assumes nothing.
-use Prim.Native.Nat.{ℕ, _/_, _%_, min}
+use Prim.Native.Nat.{ℕ, min}
 use mathlib.Core.Bool.{cond}
 use mathlib.Core.List.{List, [], _∷_, _++_}
 use lib.Dec.{eqb}
 use lib.ListN.{length, getD}
 use Rattle.semantics.specs.declared.Outcome.{Outcome}
 use Rattle.semantics.specs.Totals.{narrowCeiling}
-use Rattle.semantics.specs.Words.{keyOf, totalBits, tombstoneWord, kindBits, operationKey, amountBits}
+use Rattle.semantics.specs.Words.{keyOf, totalBits, tombstoneWord, kindBits, operationKey, amountBits, answerCode, answerTotal}
 use Rattle.semantics.specs.Text.{text, decimal, textsBelow}
 
 -- "The kind is 1 find, 2 insert, 3 update, 4 add, 5 remove." No other number has a word.
@@ -58,7 +58,7 @@ operationText i operation =
     ++ totalText (amountBits operation)
 
 unfoldable pub answerText : ℕ → List ℕ
-answerText answer = text " " ++ codeWord (answer / 65536) ++ text " " ++ totalText (answer % 65536)
+answerText answer = text " " ++ codeWord (answerCode answer) ++ text " " ++ totalText (answerTotal answer)
 
 unfoldable pub rowText : ℕ → ℕ → ℕ → List ℕ
 rowText i operation answer = operationText i operation ++ answerText answer ++ lineEnd

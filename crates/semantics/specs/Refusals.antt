@@ -37,7 +37,7 @@ abbrev pub callOf : List ℕ → List ℕ → List ℕ → ℕ → ℕ → Call
 callOf cells operations schedule answers log =
     record { cells = cells; operations = operations; schedule = schedule; answersLength = answers; logLength = log }
 
--- "There are at most 64" rows; "The schedule is a lent slice of bytes, at most 16,384"
+-- "there are at most 64" rows; "The schedule is a lent slice of bytes, at most 16,384"
 abbrev pub mostOperations : ℕ
 mostOperations = 64
 

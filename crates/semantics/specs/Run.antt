@@ -38,22 +38,23 @@ unfoldable pub answerOf : Row Total → ℕ
 answerOf r = answerWord (answered (r .state))
 
 -- "The run returns done, lost and idle."
+abbrev pub madeOutcome : ℕ → ℕ → ℕ → Outcome
+madeOutcome done lost idle = record { number = 0; place = 0; done = done; lost = lost; idle = idle }
+
 unfoldable pub outcomeOf : Machine Total → Outcome
-outcomeOf m = record { number = 0; place = 0; done = doneCount (m .rows); lost = m .lost; idle = m .idle }
+outcomeOf m = madeOutcome (doneCount (m .rows)) (m .lost) (m .idle)
 
 unfoldable pub acceptedResult : Machine Total → List ℕ → List ℕ → Result
 acceptedResult m answers log =
     record { outcome = outcomeOf m; cells = map encode (m .cells); answers = over (map answerOf (m .rows)) answers; log = over (m .log) log }
 
 -- "The result is the number and a place; all counts are 0 and nothing lent is altered."
+abbrev pub refusedOutcome : ℕ → ℕ → Outcome
+refusedOutcome number place = record { number = number; place = place; done = 0; lost = 0; idle = 0 }
+
 unfoldable pub refusedResult : Refusal → List ℕ → List ℕ → List ℕ → Result
 refusedResult r cells answers log =
-    record {
-      outcome = record { number = r .number; place = r .place; done = 0; lost = 0; idle = 0 };
-      cells = cells;
-      answers = answers;
-      log = log;
-    }
+    record { outcome = refusedOutcome (r .number) (r .place); cells = cells; answers = answers; log = log }
 
 module _ (cells operations schedule answers log : List ℕ) where
   abbrev pub refusalOf : Refusal

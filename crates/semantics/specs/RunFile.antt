@@ -11,6 +11,7 @@ use Rattle.semantics.specs.declared.Mark.{Mark}
 use Rattle.semantics.specs.declared.Mark.the-variants.{Table, Cell, Operation, Schedule, Unknown}
 use Rattle.semantics.specs.declared.Position.{Position}
 use Rattle.semantics.specs.declared.Loaded.{Loaded}
+use Rattle.semantics.specs.Words.{cellWord, operationWord}
 use Rattle.semantics.specs.Refusals.{Condition, firstMet, mostOperations, mostEntries}
 use Rattle.semantics.specs.Run.{over}
 use Rattle.semantics.specs.Text.{text}
@@ -152,10 +153,10 @@ module _ (file : List ℕ) (cells operations schedule : ℕ) where
 -- what the bodies at an offset hold: "cell number, key, total", as a cell's word; "kind (one byte), key, amount", as an operation's; "that many
 -- row numbers"
 abbrev pub cellWordAt : List ℕ → ℕ → ℕ
-cellWordAt file at = pairAt file (at + 4) * 65536 + pairAt file (at + 6)
+cellWordAt file at = cellWord (pairAt file (at + 4)) (pairAt file (at + 6))
 
 abbrev pub operationWordAt : List ℕ → ℕ → ℕ
-operationWordAt file at = byteAt file (at + 2) * 2 ^ 32 + pairAt file (at + 3) * 65536 + pairAt file (at + 5)
+operationWordAt file at = operationWord (byteAt file (at + 2)) (pairAt file (at + 3)) (pairAt file (at + 5))
 
 abbrev pub entriesAt : List ℕ → ℕ → List ℕ
 entriesAt file at = take (byteAt file (at + 2)) (drop (at + 3) file)

@@ -42,7 +42,7 @@ after p (holds h) = pending (holding p h)
 after p loses = pending (reading p)
 after p (finishes a) = finished a
 
--- "Reading, on the word now in the cell": what an operation of key k sees there is its own key, an empty cell, or "another key or a tombstone".
+-- "Reading, on the word now in the cell": what an operation of key k sees there is its own key, an empty cell, or "Another key or a tombstone".
 pub data Sight (T : Type 0) : Type 0 where
   own : T → Sight T
   free other : Sight T

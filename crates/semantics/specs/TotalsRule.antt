@@ -18,7 +18,7 @@ isAdd update = false
 isAdd add = true
 isAdd remove = false
 
--- "only finds and adds"
+-- demand 3 is about runs of finds and adds alone
 unfoldable pub isFindOrAdd : Kind → Bool
 isFindOrAdd find = true
 isFindOrAdd insert = false

@@ -24,12 +24,15 @@ keyOf w = w / 65536
 abbrev pub totalBits : ℕ → ℕ
 totalBits w = w % 65536
 
+abbrev pub cellWord : ℕ → ℕ → ℕ
+cellWord key total = key * 65536 + total
+
 -- "Keys 1 to 65,534 are live."
 unfoldable pub isLiveKey : ℕ → Bool
 isLiveKey k = ltb 0 k && ltb k 65535
 
 unfoldable pub tombstoneWord : ℕ
-tombstoneWord = 65535 * 65536
+tombstoneWord = cellWord 65535 0
 
 -- "Word 0 is an empty cell. Key 65,535 with total 0 is a tombstone": a word with another total under those keys is no cell (refusal 4)
 unfoldable pub cellAllowed : ℕ → Bool
@@ -42,7 +45,7 @@ decode w = cond (isLiveKey (keyOf w)) (live (keyOf w) (narrow (totalBits w))) (c
 unfoldable pub encode : Cell Total → ℕ
 encode empty = 0
 encode tombstone = tombstoneWord
-encode (live k t) = k * 65536 + t .amount
+encode (live k t) = cellWord k (t .amount)
 
 -- "Home of a key: (key × 40,503) mod 65,536, divided by (65,536 / c), rounded down."
 unfoldable pub homeIn : ℕ → ℕ → ℕ
@@ -61,6 +64,9 @@ operationKey w = w / 65536 % 65536
 abbrev pub amountBits : ℕ → ℕ
 amountBits w = w % 65536
 
+abbrev pub operationWord : ℕ → ℕ → ℕ → ℕ
+operationWord kind key amount = kind * 2 ^ 32 + key * 65536 + amount
+
 -- "The kind is 1 find, 2 insert, 3 update, 4 add, 5 remove." Any other number is refused (refusal 5), so it
 -- does not matter that it stands for the last.
 unfoldable pub kindOf : ℕ → Kind
@@ -77,7 +83,7 @@ unfoldable pub decodeOperation : ℕ → Operation Total
 decodeOperation w = record { kind = kindOf (kindBits w); key = operationKey w; amount = narrow (amountBits w) }
 
 unfoldable pub encodeOperation : Operation Total → ℕ
-encodeOperation o = kindNumber (o .kind) * 2 ^ 32 + o .key * 65536 + o .amount .amount
+encodeOperation o = operationWord (kindNumber (o .kind)) (o .key) (o .amount .amount)
 
 -- "The key is live. The amount may be 0 to 65,535, and is 0 for find and remove."
 unfoldable pub takesAmount : ℕ → Bool
@@ -91,14 +97,24 @@ operationAllowed w =
     eqb (bitsAboveKind w) 0 && isKind (kindBits w) && isLiveKey (operationKey w)
     && (takesAmount (kindBits w) || eqb (amountBits w) 0)
 
--- "Answers are 32-bit: code × 65,536 + total. .. Codes 0, 2, 6 and 7 carry total 0."
+-- "Answers are 32-bit: code × 65,536 + total."
+abbrev pub answerCode : ℕ → ℕ
+answerCode w = w / 65536
+
+abbrev pub answerTotal : ℕ → ℕ
+answerTotal w = w % 65536
+
+abbrev pub packedAnswer : ℕ → ℕ → ℕ
+packedAnswer code total = code * 65536 + total
+
+-- "Codes 0, 2, 6 and 7 carry total 0."
 unfoldable pub carried : Option Total → ℕ
 carried none = 0
 carried (some t) = t .amount
 
 unfoldable pub answerWord : Option (Answer Total) → ℕ
 answerWord none = 0
-answerWord (some a) = codeOf a * 65536 + carried (totalOf a)
+answerWord (some a) = packedAnswer (codeOf a) (carried (totalOf a))
 
 -- the setting of a narrow table of c cells
 abbrev pub narrowSetting : ℕ → Setting

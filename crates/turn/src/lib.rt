@@ -15,6 +15,9 @@ use operation::operation_key;
 use rule::Rule;
 use rule::is_known;
 use rule::rule_of;
+use word::ABSENT;
+use word::FULL;
+use word::INSERTED;
 use word::cell_key;
 use word::cell_word;
 use word::is_live_key;
@@ -34,13 +37,6 @@ pub struct Taken {
     pub word: u32,
     pub turn: Turn,
 }
-
-// The answers that carry no total: their codes alone.
-const INSERTED: u32 = (word::INSERTED as u32) * 65536;
-
-const ABSENT: u32 = (word::ABSENT as u32) * 65536;
-
-const FULL: u32 = (word::FULL as u32) * 65536;
 
 // Whether a word is a cell of the operation's key, which is live.
 fn is_own(operation: u64, word: u32) -> bool

@@ -3,13 +3,13 @@
 // or a remainder, so that callers need not reason about bits. Every function takes every input.
 ghost use mathlib.Core.Path.{_≡_};
 ghost use Prim.Native.Nat.{_+_, _*_, _/_, _%_};
-ghost use Rattle.semantics.specs.Words.{keyOf, totalBits, isLiveKey};
+ghost use Rattle.semantics.specs.Words.{keyOf, totalBits, cellWord, answerCode, answerTotal, packedAnswer, isLiveKey};
 
-// Document 01's codes of the answers, 0 for an unfinished operation; and the word of a tombstone, key
-// 65,535 with total 0.
+// The word of a tombstone: key 65,535 with total 0.
+pub const TOMBSTONE: u32 = 65535 << 16;
+
+// Document 01's codes of the answers that carry a total.
 pub const FOUND: u8 = 1;
-
-pub const INSERTED: u8 = 2;
 
 pub const PRESENT: u8 = 3;
 
@@ -17,11 +17,12 @@ pub const CHANGED: u8 = 4;
 
 pub const REMOVED: u8 = 5;
 
-pub const ABSENT: u8 = 6;
+// The answers that carry none, whole: codes 2, 6 and 7. An unfinished operation's is 0.
+pub const INSERTED: u32 = 2 << 16;
 
-pub const FULL: u8 = 7;
+pub const ABSENT: u32 = 6 << 16;
 
-pub const TOMBSTONE: u32 = 65535 * 65536;
+pub const FULL: u32 = 7 << 16;
 
 // Sixteen bits above sixteen: the layout of a cell and of an answer.
 fn upper_half(w: u32) -> u16
@@ -56,26 +57,26 @@ pub fn cell_total(w: u32) -> u16
 }
 
 pub fn cell_word(key: u16, total: u16) -> u32
-    ensures { λ r. ⌜ r ≡ key * 65536 + total ⌝ }
+    ensures { λ r. ⌜ r ≡ cellWord key total ⌝ }
 {
     joined(key, total)
 }
 
 // An answer: its code above its total. A code is at most 7, but any word has sixteen bits there.
 pub fn answer_code(w: u32) -> u16
-    ensures { λ r. ⌜ r ≡ w / 65536 ⌝ }
+    ensures { λ r. ⌜ r ≡ answerCode w ⌝ }
 {
     upper_half(w)
 }
 
 pub fn answer_total(w: u32) -> u16
-    ensures { λ r. ⌜ r ≡ w % 65536 ⌝ }
+    ensures { λ r. ⌜ r ≡ answerTotal w ⌝ }
 {
     lower_half(w)
 }
 
 pub fn answer_word(code: u8, total: u16) -> u32
-    ensures { λ r. ⌜ r ≡ code * 65536 + total ⌝ }
+    ensures { λ r. ⌜ r ≡ packedAnswer code total ⌝ }
 {
     joined(code as u16, total)
 }
