@@ -15,14 +15,13 @@ use borrow.Author.Tests.{eq-eqb, ne-eqb}
 use Rattle.semantics.specs.Totals.{Total, narrow}
 use Rattle.semantics.specs.Cells.{Setting, Cell, Operation, empty}
 use Rattle.semantics.specs.Step.{Turn, passes, holds, loses, finishes, Held, vacant, mine, Pending, reading, holding, State, pending, finished, after}
-use Rattle.semantics.specs.Step.{heldCell, newCell, swapAnswer, sameCell, swapped, step, passed, placeOf}
+use Rattle.semantics.specs.Step.{heldCell, sameCell, swapped, step, passed, placeOf}
 use Rattle.semantics.specs.Step as rules
 use Rattle.semantics.specs.Words.{encode, decodeOperation, answerWord, narrowSetting, isKind, kindBits, totalBits, homeIn}
 use Rattle.semantics.proofs.RunPacks.{Stands}
 use Rattle.semantics.proofs.Words.{Packs, decode-encode, encode-allowed, same-words, live-bounds}
-use Rattle.turn.specs.declared.Turn.the-variants.{Lose}
 use Rattle.turn.specs.declared.Taken.{Taken}
-use Rattle.turn.specs.Turn.{turnOf, heldOf, readTurn, swapWon, swapTaken, readIf, swapIf}
+use Rattle.turn.specs.Turn.{turnOf, heldOf, readTurn, swapOf, readIf, swapIf}
 use Rattle.step.specs.declared.Progress.{Progress}
 use Rattle.step.specs.declared.Event.{Event}
 use Rattle.step.specs.declared.Event.the-variants.{Passed, Held as WordHeld, Lost, Finished}
@@ -130,18 +129,17 @@ module _ (c operation : ℕ) (known : isKind (kindBits operation) ≡ true) wher
 
   taken-is : (s : Pending Total) (x : Cell Total) → Packs x → Stands c (o .key) (pending s)
       → taken c operation (recordOf c (o .key) (pending s)) (encode x) ≡ by-rules s x
-  unfolding taken recordOf readIf swapIf readTurn swapTaken swapWon step swapped turnOf
+  unfolding taken recordOf readIf swapIf readTurn swapOf step swapped turnOf
   taken-is (reading p) x q b = rw (known, decode-encode x q)
   taken-is (holding p h) x q b =
       let k = o .key in
       let S = narrowSetting c in
-      rw (known, same-held c k h x q (b .1), held-back c k h (b .1)) (go (sameCell S x (heldCell S k h)))
+      rw (known, same-held c k h x q (b .1), held-back c k h (b .1), decode-encode x q) (go (sameCell S x (heldCell S k h)))
     where
       go : (z : Bool)
           → let S = narrowSetting c in
-          let lost : Taken = record { word = encode x; turn = Lose } in
-          let won : Taken = record { word = encode (newCell S o h); turn = turnOf c (o .key) (finishes (swapAnswer S o h)) } in
-          cond z won lost ≡ record { word = encode (swapped S o h x z .cell); turn = turnOf c (o .key) (swapped S o h x z .turn) }
+          let leaves : ℕ → Taken = λ w. record { word = w; turn = turnOf c (o .key) (swapped S o h x z .turn) } in
+          leaves (cond z (encode (swapped S o h x z .cell)) (encode x)) ≡ leaves (encode (swapped S o h x z .cell))
       go true = refl
       go false = refl
 

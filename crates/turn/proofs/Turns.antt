@@ -10,7 +10,7 @@ use borrow.Author.Tests.{ne-eqb, eq-eqb}
 use Rattle.semantics.specs.Totals.{Total, narrow}
 use Rattle.semantics.specs.Cells.{Setting, Operation, codeOf, totalOf}
 use Rattle.semantics.specs.Step.{passes, Effect, Fate, stays, ends, becomes, Sight, own, free, other}
-use Rattle.semantics.specs.Step.{sight, makes, effect, readOwn, read, exhausted, bounded, heldCell, newCell, fateCell, swapAnswer, step}
+use Rattle.semantics.specs.Step.{sight, makes, effect, readOwn, read, exhausted, bounded, heldCell, newCell, fateCell, swapAnswer, swapped, step}
 use Rattle.semantics.specs.Words.{decode, encode, decodeOperation, answerWord, carried, narrowSetting, isLiveKey, keyOf, totalBits}
 use Rattle.semantics.specs.Words.{operationKey, amountBits}
 use Rattle.semantics.proofs.Tests.{both, passed, true-T}
@@ -18,7 +18,7 @@ use Rattle.rule.specs.declared.Rule.{Rule}
 use Rattle.rule.specs.Rule.{ruleIf, isStay}
 use Rattle.turn.specs.declared.Turn as declared
 use Rattle.turn.specs.declared.Turn.the-variants.{Pass, Hold, Finish}
-use Rattle.turn.specs.Turn.{turnOf, heldOf, readTurn, swapWon}
+use Rattle.turn.specs.Turn.{turnOf, heldOf, readTurn, swapOf}
 
 -- what an operation of key k sees in a word
 sight-empty : (k : ℕ) → sight k (decode 0) ≡ free
@@ -126,12 +126,13 @@ module _ (c operation : ℕ) where
         go (becomes u) q = rw (← q) (ap Hold back)
 
     -- what a won swap stores and answers
-    pub won-own : (w : ℕ) → t ≡ totalBits w → (w ≡ 0 → ⊥) → record { word = rule .word; turn = Finish (rule .answer) } ≡ swapWon c operation w
-    unfolding swapWon heldOf turnOf newCell swapAnswer
-    won-own w total n =
-        (λ i. record { word = word-is i; turn = Finish (answer-is i) }) ∙ rw (ne-eqb w 0 n, ← total)
+    pub won-own : (held w : ℕ) → t ≡ totalBits held → (held ≡ 0 → ⊥)
+        → record { word = rule .word; turn = Finish (rule .answer) } ≡ swapOf c operation true held w
+    unfolding swapOf swapped heldOf turnOf newCell swapAnswer
+    won-own held w total n =
+        (λ i. record { word = word-is i; turn = Finish (answer-is i) }) ∙ rw (ne-eqb held 0 n, ← total)
 
-pub won-empty : (c operation w k a : ℕ) → w ≡ 0 → k ≡ operationKey operation → a ≡ amountBits operation
-    → record { word = k * 65536 + a; turn = Finish 131072 } ≡ swapWon c operation w
-unfolding swapWon heldOf turnOf newCell encode swapAnswer answerWord codeOf carried totalOf decodeOperation narrow
-won-empty c operation w k a z key amount = rw (z, key, amount)
+pub won-empty : (c operation held w k a : ℕ) → held ≡ 0 → k ≡ operationKey operation → a ≡ amountBits operation
+    → record { word = k * 65536 + a; turn = Finish 131072 } ≡ swapOf c operation true held w
+unfolding swapOf swapped heldOf turnOf newCell encode swapAnswer answerWord codeOf carried totalOf decodeOperation narrow
+won-empty c operation held w k a z key amount = rw (z, key, amount)

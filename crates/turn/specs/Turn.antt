@@ -6,7 +6,7 @@ use mathlib.Core.Bool.{Bool, cond}
 use mathlib.Core.Option.{some}
 use lib.Dec.{eqb}
 use Rattle.semantics.specs.Totals.{Total, narrow}
-use Rattle.semantics.specs.Step.{Turn, passes, loses, holds, finishes, Held, vacant, mine, reading, heldCell, newCell, swapAnswer, step}
+use Rattle.semantics.specs.Step.{Turn, passes, loses, holds, finishes, Held, vacant, mine, reading, heldCell, swapped, step}
 use Rattle.semantics.specs.Words.{decode, encode, decodeOperation, answerWord, narrowSetting, totalBits}
 use Rattle.turn.specs.declared.Turn as declared
 use Rattle.turn.specs.declared.Turn.the-variants.{Pass, Hold, Lose, Finish, Refuse}
@@ -28,22 +28,17 @@ module _ (c operation : ℕ) where
   unfoldable pub readTurn : ℕ → ℕ → declared.Turn
   readTurn p w = turnOf c (decodeOperation operation .key) (step (narrowSetting c) (decodeOperation operation) (reading p) (decode w) .turn)
 
-  -- "if the cell still equals the held word, the new word is stored and the row finishes"
-  unfoldable pub swapWon : ℕ → Taken
-  swapWon held =
+  -- "Swapping, one step after holding": what a swap leaves, won or lost. A lost one leaves the word that is there, whatever it is.
+  unfoldable pub swapOf : Bool → ℕ → ℕ → Taken
+  swapOf won held w =
       let o = decodeOperation operation in
-      record {
-        word = encode (newCell (narrowSetting c) o (heldOf held));
-        turn = turnOf c (o .key) (finishes (swapAnswer (narrowSetting c) o (heldOf held)));
-      }
-
-  -- "Otherwise the swap is lost": whole words are compared
-  unfoldable pub swapTaken : ℕ → ℕ → Taken
-  swapTaken held w = cond (eqb w held) (swapWon held) (record { word = w; turn = Lose })
+      let r = swapped (narrowSetting c) o (heldOf held) (decode w) won in
+      record { word = cond won (encode (r .cell)) w; turn = turnOf c (o .key) (r .turn) }
 
   -- a number that is no kind does neither
   unfoldable pub readIf : Bool → ℕ → ℕ → Taken
   readIf known p w = record { word = w; turn = cond known (readTurn p w) Refuse }
 
+  -- "if the cell still equals the held word": whole words are compared
   unfoldable pub swapIf : Bool → ℕ → ℕ → Taken
-  swapIf known held w = cond known (swapTaken held w) (record { word = w; turn = Refuse })
+  swapIf known held w = cond known (swapOf (eqb w held) held w) (record { word = w; turn = Refuse })

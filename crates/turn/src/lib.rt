@@ -9,7 +9,7 @@ ghost use Rattle.semantics.specs.Step.{makes};
 ghost use Rattle.semantics.specs.Words.{keyOf, totalBits, kindBits, operationKey, isLiveKey, isKind, decodeOperation};
 ghost use Rattle.rule.specs.Rule.{ruleIf};
 ghost use Rattle.turn.specs.declared.Turn.the-variants.{Hold, Finish};
-ghost use Rattle.turn.specs.Turn.{readTurn, swapWon, readIf, swapIf};
+ghost use Rattle.turn.specs.Turn.{readTurn, swapOf, readIf, swapIf};
 use operation::operation_amount;
 use operation::operation_key;
 use rule::Rule;
@@ -122,7 +122,7 @@ pub fn read(operation: u64, c: usize, passed: usize, word: u32) -> Taken
 // A swap that is won: on an empty cell the key and the amount are stored.
 fn won(operation: u64, held: u32, rule: Rule) -> Taken
     requires { ⌜ ((c : ℕ) → rule ≡ ruleIf true c (decodeOperation operation) (totalBits held)) ⌝ }
-    ensures { λ r. ⌜ ((c : ℕ) → r ≡ swapWon c operation held) ⌝ }
+    ensures { λ r. ⌜ ((c w : ℕ) → r ≡ swapOf c operation true held w) ⌝ }
 {
     if held == 0 {
         return Taken {

@@ -2,8 +2,9 @@
 -- Assumes nothing.
 use borrow.Author.Needs.{needs}
 use borrow.Author.Tests.{eq-eqb, ne-eqb}
+use Rattle.semantics.specs.Step.{swapped}
 use Rattle.rule.proofs.Rules.{rule-if, known-is}
-use Rattle.turn.specs.Turn.{swapIf, swapTaken}
+use Rattle.turn.specs.Turn.{turnOf, swapOf, swapIf}
 use Rattle.turn.proofs.compare_and_swap.Statement.{statement}
 use Rattle.turn.proofs.compare_and_swap.Tie as tie
 
@@ -14,14 +15,14 @@ won-requires : tie.Need-won-requires
 won-requires c κs = λ s. rule-if s _ _ (c .before .before .rule-of .ensures s) (known-is s _ _ (c .before .before .rule-of .ensures s) (c .before .if1 .taken))
 
 returns : tie.Need-returns
-unfolding swapIf swapTaken
+unfolding swapIf
 returns c = λ s.
     let won = c .before in
     let a = won .before .before .before .args in
-    rw (known-is 0 _ _ (won .before .before .rule-of .ensures 0) (won .before .if1 .taken), eq-eqb (a .word) (a .held) (won .if2 .taken)) (c .won .ensures s)
+    rw (known-is 0 _ _ (won .before .before .rule-of .ensures 0) (won .before .if1 .taken), eq-eqb (a .word) (a .held) (won .if2 .taken)) (c .won .ensures s (a .word))
 
 returns-2 : tie.Need-returns-2
-unfolding swapIf swapTaken
+unfolding swapIf swapOf swapped turnOf
 returns-2 c = λ s.
     let a = c .before .before .before .args in
     rw (known-is 0 _ _ (c .before .before .rule-of .ensures 0) (c .before .if1 .taken), ne-eqb (a .word) (a .held) (c .if2 .left))
