@@ -29,7 +29,7 @@ fn byte_after(file: &[u8], at: usize) -> u8
 fn pair(high: u8, low: u8) -> u16
     ensures { λ r. ⌜ (r ≡ high * 256 + low) × (low < 256) ⌝ }
 {
-    (high as u16) * 256 + (low as u16)
+    ((high as u16) << 8) | (low as u16)
 }
 
 pub fn pair_at(file: &[u8], at: usize) -> u16

@@ -102,6 +102,27 @@ fn the_call_that_the_others_change_is_accepted() {
     assert_eq!((outcome.done, outcome.lost, outcome.idle), (3, 0, 1));
 }
 
+/// "Rows without entries: all answers written as 0, no cell or log byte
+/// altered."
+#[test]
+fn operations_without_entries() {
+    let mut call = accepted();
+    call.schedule.clear();
+    let outcome = made(&call);
+    assert_eq!((outcome.number, outcome.place), (0, 0));
+    assert_eq!((outcome.done, outcome.lost, outcome.idle), (0, 0, 0));
+    let mut left = call.clone();
+    calls::run(
+        &mut left.cells,
+        &left.operations,
+        &left.schedule,
+        &mut left.answers,
+        &mut left.log,
+    );
+    call.answers[..3].fill(0);
+    assert_eq!(left, call);
+}
+
 #[test]
 fn cells_of_every_length() {
     for c in (0..=4_200).chain([8_191, 8_192, 16_384, 65_536, 70_000]) {
