@@ -17,7 +17,7 @@ use Rattle.semantics.proofs.Tests.{both, passed, true-T}
 use Rattle.rule.specs.declared.Rule.{Rule}
 use Rattle.rule.specs.Rule.{ruleIf, isStay}
 use Rattle.turn.specs.declared.Turn as declared
-use Rattle.turn.specs.declared.Turn.the-variants.{Pass, Hold, Finish}
+use Rattle.turn.specs.declared.Turn.the-variants.{Pass, Hold, Lose, Finish}
 use Rattle.turn.specs.Turn.{turnOf, heldOf, readTurn, swapOf}
 
 -- what an operation of key k sees in a word
@@ -136,3 +136,8 @@ pub won-empty : (c operation held w k a : ℕ) → held ≡ 0 → k ≡ operatio
     → record { word = k * 65536 + a; turn = Finish 131072 } ≡ swapOf c operation true held w
 unfolding swapOf swapped heldOf turnOf newCell encode swapAnswer answerWord codeOf carried totalOf decodeOperation narrow
 won-empty c operation held w k a z key amount = rw (z, key, amount)
+
+-- and a lost one
+pub lost : (c operation held w : ℕ) → record { word = w; turn = Lose } ≡ swapOf c operation false held w
+unfolding swapOf swapped turnOf
+lost c operation held w = refl

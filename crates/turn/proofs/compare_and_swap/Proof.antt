@@ -2,9 +2,9 @@
 -- Assumes nothing.
 use borrow.Author.Needs.{needs}
 use borrow.Author.Tests.{eq-eqb, ne-eqb}
-use Rattle.semantics.specs.Step.{swapped}
 use Rattle.rule.proofs.Rules.{rule-if, known-is}
-use Rattle.turn.specs.Turn.{turnOf, swapOf, swapIf}
+use Rattle.turn.specs.Turn.{swapIf}
+use Rattle.turn.proofs.Turns.{lost}
 use Rattle.turn.proofs.compare_and_swap.Statement.{statement}
 use Rattle.turn.proofs.compare_and_swap.Tie as tie
 
@@ -22,10 +22,10 @@ returns c = λ s.
     rw (known-is 0 _ _ (won .before .before .rule-of .ensures 0) (won .before .if1 .taken), eq-eqb (a .word) (a .held) (won .if2 .taken)) (c .won .ensures s (a .word))
 
 returns-2 : tie.Need-returns-2
-unfolding swapIf swapOf swapped turnOf
+unfolding swapIf
 returns-2 c = λ s.
     let a = c .before .before .before .args in
-    rw (known-is 0 _ _ (c .before .before .rule-of .ensures 0) (c .before .if1 .taken), ne-eqb (a .word) (a .held) (c .if2 .left))
+    rw (known-is 0 _ _ (c .before .before .rule-of .ensures 0) (c .before .if1 .taken), ne-eqb (a .word) (a .held) (c .if2 .left)) (lost s (a .operation) (a .held) (a .word))
 
 returns-3 : tie.Need-returns-3
 unfolding swapIf
