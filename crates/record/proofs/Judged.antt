@@ -18,7 +18,7 @@ use Rattle.semantics.specs.Refusals.{firstMet}
 use Rattle.semantics.specs.Records.{faultAt}
 use Rattle.semantics.specs.RunFile.{byteAt, pairAt, markAt, partOf, mayFollow, sizeOf, isBodyWrong, isOneTooMany, past, nextOf, runFile}
 use Rattle.semantics.specs.RunFile.{conditionsAt, markCut, markWrong, bodyCut, bodyWrong, oneTooMany}
-use Rattle.semantics.proofs.Start.{none-met}
+use Rattle.semantics.proofs.Conditions.{none-met}
 use Rattle.semantics.proofs.Records.{Scannable}
 use Rattle.semantics.proofs.Parts.{Agrees, rest-agrees, pair-agrees, mark-agrees}
 use Rattle.semantics.proofs.Tests.{same-test, compared, neither}

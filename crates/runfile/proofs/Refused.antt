@@ -12,7 +12,7 @@ use Rattle.semantics.specs.declared.Refusal.{Refusal}
 use Rattle.semantics.specs.Refusals.{Condition, firstMet}
 use Rattle.semantics.specs.Records.{records, recordConditions}
 use Rattle.semantics.specs.RunFile.{start, runFile, sliceTooShort, fileTooLong, readerConditions, readerRefusal, contents, acceptedReading, refusedReading, reading}
-use Rattle.semantics.proofs.Start.{NoneMet, none-met, met-here, met-late, early-accepts}
+use Rattle.semantics.proofs.Conditions.{NoneMet, none-met, met-here, met-late, early-accepts}
 use Rattle.semantics.proofs.Records.{judgement}
 use Rattle.semantics.proofs.Tests.{neither}
 

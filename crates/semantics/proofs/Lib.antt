@@ -11,6 +11,8 @@ pub mod Orders
 pub mod TotalsHold
 pub mod Narrow
 pub mod Words
+pub mod Searches
+pub mod Conditions
 pub mod Start
 pub mod Records
 pub mod Parts

@@ -12,7 +12,7 @@ use Rattle.semantics.specs.Basics.{foldl}
 use Rattle.semantics.specs.declared.Refusal.{Refusal}
 use Rattle.semantics.specs.Refusals.{firstMet}
 use Rattle.semantics.specs.Records.{Format, faultAt, goesOn, recordsFrom, records, recordConditions}
-use Rattle.semantics.proofs.Start.{Positive, none-met, met-early, met-late, met-none, Placed, met-placed, early-accepts}
+use Rattle.semantics.proofs.Conditions.{Positive, none-met, met-early, met-late, met-none, Placed, met-placed, early-accepts}
 
 -- what a scan asks of a format: the numbers of its conditions are positive and their place is the record's; a record that none turns away
 -- begins within the file, and the one after it further on

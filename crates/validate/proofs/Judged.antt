@@ -8,7 +8,7 @@ use Rattle.semantics.specs.declared.Refusal.{Refusal}
 use Rattle.semantics.specs.Refusals.{Call, callOf, Condition, firstMet, atFirst}
 use Rattle.semantics.specs.Refusals.{sizeNotAllowed, tooMany, tooShort, badCell, badOperation, badEntry, repeatedKey, unreachableKey}
 use Rattle.semantics.specs.Refusals.{slicesConditions, wordsConditions, tableConditions, runConditions, runRefusal}
-use Rattle.semantics.proofs.Start.{NoneMet, none-met, met-early, met-late}
+use Rattle.semantics.proofs.Conditions.{NoneMet, none-met, met-early, met-late}
 
 module _ (call : Call) where
   -- the second and the third part, for the slices that they depend on

@@ -17,7 +17,7 @@ use Rattle.semantics.specs.Words.{isLiveKey, keyOf}
 use Rattle.semantics.specs.Refusals.{isRepeated}
 use Rattle.semantics.proofs.Tests.{true-T}
 use Rattle.semantics.proofs.Words.{live-bounds}
-use Rattle.semantics.proofs.Start.{none-some-below, some-more, Searching, search-starts, search-goes-on, search-finds}
+use Rattle.semantics.proofs.Searches.{none-some-below, some-more, Searching, search-starts, search-goes-on, search-finds}
 use Rattle.sets.proofs.Sets.{in-none, in-including}
 
 -- whether key k is in the set, and the set with it

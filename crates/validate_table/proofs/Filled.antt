@@ -16,7 +16,7 @@ use Rattle.semantics.specs.Words.{sizeAllowed, isLiveKey, keyOf, homeIn}
 use Rattle.semantics.specs.Refusals.{isUnreachable}
 use Rattle.semantics.proofs.Tests.{true-T}
 use Rattle.semantics.proofs.Narrow.{allowed-lawful}
-use Rattle.semantics.proofs.Start.{first-below, some-below, none-some-below, Searching, search-starts, search-goes-on, search-finds, search-ends}
+use Rattle.semantics.proofs.Searches.{first-below, some-below, none-some-below, Searching, search-starts, search-goes-on, search-finds, search-ends}
 
 -- how far cell i is from h on, of c cells; and the word of the cell that is d + 1 before cell i
 abbrev pub distance : ℕ → ℕ → ℕ → ℕ

@@ -4,7 +4,7 @@ use mathlib.Core.Logic.{⊎-elim}
 use mathlib.Core.Path.{sym, _∙_}
 use Prim.Native.Nat.{_-_}
 use lib.ListN.{length}
-use Rattle.semantics.proofs.Start.{search-ends}
+use Rattle.semantics.proofs.Searches.{search-ends}
 use Rattle.validate_keys.proofs.Seen.{Seen, seen-none, seen-found, seen-passed, seen-more}
 use borrow.Author.Needs.{needs}
 use Rattle.validate_keys.proofs.first_repeated_key.Statement.{statement}

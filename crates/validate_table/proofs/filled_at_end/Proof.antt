@@ -4,7 +4,7 @@ use Prim.Native.Nat.{_+_, _-_}
 use lib.Dec.{eqb}
 use lib.ListN.{length, getD}
 use borrow.Author.Tests.{eq-eqb, ne-eqb}
-use Rattle.semantics.proofs.Start.{Searching, search-starts, search-goes-on, search-finds, search-ends}
+use Rattle.semantics.proofs.Searches.{Searching, search-starts, search-goes-on, search-finds, search-ends}
 use borrow.Author.Needs.{needs}
 use Rattle.validate_table.proofs.filled_at_end.Statement.{statement}
 use Rattle.validate_table.proofs.filled_at_end.Tie as tie

@@ -6,7 +6,7 @@ use native.Mathlib.Omega.{arith}
 use lib.ListN.{length}
 use Rattle.semantics.proofs.Tests.{true-T}
 use Rattle.semantics.proofs.Narrow.{allowed-bounds}
-use Rattle.semantics.proofs.Start.{search-ends}
+use Rattle.semantics.proofs.Searches.{search-ends}
 use Rattle.validate_table.proofs.Filled.{Since, filled-within, all-filled, since-start, filled-found, filled-none, filled-more}
 use borrow.Author.Needs.{needs}
 use Rattle.validate_table.proofs.first_unreachable_key.Statement.{statement}

@@ -6,7 +6,7 @@ use mathlib.Core.List.{List, [], _∷_}
 use lib.ListN.{length}
 use Rattle.semantics.specs.Words.{sizeAllowed}
 use Rattle.semantics.specs.Refusals.{Call, Condition, firstMet, sizeNotAllowed, repeatedKey, unreachableKey}
-use Rattle.semantics.proofs.Start.{met-late, met-here, met-at, met-nowhere, met-none}
+use Rattle.semantics.proofs.Conditions.{met-late, met-here, met-at, met-nowhere, met-none}
 use borrow.Author.Needs.{needs}
 use Rattle.validate_table.proofs.table_refusal.Statement.{statement}
 use Rattle.validate_table.proofs.table_refusal.Tie as tie

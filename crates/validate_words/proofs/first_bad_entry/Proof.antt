@@ -5,7 +5,7 @@ use native.Mathlib.Omega.{arith}
 use lib.Dec.{leb}
 use lib.ListN.{length, getD}
 use borrow.Author.Tests.{le-leb, lt-leb}
-use Rattle.semantics.proofs.Start.{Searching, search-starts, search-goes-on, search-finds, search-ends}
+use Rattle.semantics.proofs.Searches.{Searching, search-starts, search-goes-on, search-finds, search-ends}
 use borrow.Author.Needs.{needs}
 use Rattle.validate_words.proofs.first_bad_entry.Statement.{statement}
 use Rattle.validate_words.proofs.first_bad_entry.Tie as tie

@@ -2,7 +2,7 @@
 -- Assumes nothing.
 use mathlib.Core.Path.{sym, _∙_}
 use Rattle.semantics.specs.Refusals.{badCell, badOperation, badEntry}
-use Rattle.semantics.proofs.Start.{met-at, met-nowhere, met-none}
+use Rattle.semantics.proofs.Conditions.{met-at, met-nowhere, met-none}
 use borrow.Author.Needs.{needs}
 use Rattle.validate_words.proofs.words_refusal.Statement.{statement}
 use Rattle.validate_words.proofs.words_refusal.Tie as tie

@@ -1,0 +1,95 @@
+-- Tables of conditions, of which the first that is met decides.
+-- Assumes nothing.
+use mathlib.Core.Path.{_≡_, refl, sym, ap, _∙_}
+use Prim.Native.Nat.{ℕ, _≤_, _<_}
+use mathlib.Core.Bool.{Bool, true, false, cond}
+use mathlib.Core.List.{List, [], _∷_, _++_}
+use native.Mathlib.Decide.{ℕ-discrete}
+use native.Mathlib.Omega.{arith}
+use borrow.Author.Tests.{lt-ltb, le-ltb}
+use Rattle.semantics.specs.Basics.{firstBelow, someBelow}
+use Rattle.semantics.specs.declared.Refusal.{Refusal}
+use Rattle.semantics.specs.Refusals.{Condition, firstMet, atFirst}
+
+-- with positive numbers, number 0 says that no condition is met
+abbrev pub Positive : List Condition → Type 0
+Positive [] = Unit
+Positive (c ∷ more) = (0 < c .number) × Positive more
+
+abbrev pub NoneMet : List Condition → Type 0
+NoneMet [] = Unit
+NoneMet (c ∷ more) = (c .met ≡ false) × NoneMet more
+
+pub none-met : (cs : List Condition) → Positive cs → firstMet cs .number ≡ 0 → NoneMet cs
+unfolding firstMet
+none-met [] p e = tt
+none-met (c ∷ more) p e = go (c .met) refl e (none-met more (p .1))
+  where
+    go : (b : Bool) → c .met ≡ b → cond b (record { number = c .number; place = c .place }) (firstMet more) .number ≡ 0
+        → (firstMet more .number ≡ 0 → NoneMet more) → NoneMet (c ∷ more)
+    go true m f r = absurd (omega (arith, p .0))
+    go false m f r = (m, r f)
+
+-- a table in two parts: the first condition met is in the first part, or else in the second
+pub met-early : (cs ds : List Condition) → (firstMet cs .number ≡ 0 → ⊥) → firstMet (cs ++ ds) ≡ firstMet cs
+unfolding firstMet
+met-early [] ds h = absurd (h refl)
+met-early (c ∷ more) ds h = go (c .met) h (met-early more ds)
+  where
+    refusal : Refusal
+    refusal = record { number = c .number; place = c .place }
+
+    go : (b : Bool) → (cond b refusal (firstMet more) .number ≡ 0 → ⊥) → ((firstMet more .number ≡ 0 → ⊥) → firstMet (more ++ ds) ≡ firstMet more)
+        → cond b refusal (firstMet (more ++ ds)) ≡ cond b refusal (firstMet more)
+    go true h r = refl
+    go false h r = r h
+
+pub met-late : (cs ds : List Condition) → NoneMet cs → firstMet (cs ++ ds) ≡ firstMet ds
+unfolding firstMet
+met-late [] ds h = refl
+met-late (c ∷ more) ds h = rw (h .0) (met-late more ds (h .1))
+
+-- where none of a table is met, none of its first part is
+pub early-accepts : (cs ds : List Condition) → firstMet (cs ++ ds) .number ≡ 0 → firstMet cs .number ≡ 0
+early-accepts cs ds e = elim (ℕ-discrete (firstMet cs .number) 0) [
+  | yes z ↦ z
+  | no h ↦ ap (λ (r : Refusal). r .number) (sym (met-early cs ds h)) ∙ e
+]
+
+-- a table of one condition more
+pub met-here : (c : Condition) (more : List Condition) → c .met ≡ true → firstMet (c ∷ more) ≡ record { number = c .number; place = c .place }
+unfolding firstMet
+met-here c more e = rw e
+
+pub met-none : firstMet [] ≡ record { number = 0; place = 0 }
+unfolding firstMet
+met-none = refl
+
+-- conditions of one place: the first that is met has it
+abbrev pub Placed : ℕ → List Condition → Type 0
+Placed at [] = Unit
+Placed at (c ∷ more) = (c .place ≡ at) × Placed at more
+
+pub met-placed : (at : ℕ) (cs : List Condition) → Placed at cs → (firstMet cs .number ≡ 0 → ⊥) → firstMet cs ≡ record { number = firstMet cs .number; place = at }
+unfolding firstMet
+met-placed at [] p h = absurd (h refl)
+met-placed at (c ∷ more) p h = go (c .met) h (met-placed at more (p .1))
+  where
+    refusal : Refusal
+    refusal = record { number = c .number; place = c .place }
+
+    go : (b : Bool) → (cond b refusal (firstMet more) .number ≡ 0 → ⊥)
+        → ((firstMet more .number ≡ 0 → ⊥) → firstMet more ≡ record { number = firstMet more .number; place = at })
+        → cond b refusal (firstMet more) ≡ record { number = cond b refusal (firstMet more) .number; place = at }
+    go true h r = λ i. record { number = c .number; place = p .0 i }
+    go false h r = r h
+
+-- a table that opens with a search, whose answer is r
+module _ (number n : ℕ) (test : ℕ → Bool) (more : List Condition) (r : ℕ) (e : r ≡ firstBelow n test) where
+  pub met-at : r < n → firstMet (atFirst number n test ∷ more) ≡ record { number = number; place = r }
+  unfolding firstMet atFirst someBelow
+  met-at b = rw (← e, lt-ltb r n b)
+
+  pub met-nowhere : n ≤ r → firstMet (atFirst number n test ∷ more) ≡ firstMet more
+  unfolding firstMet atFirst someBelow
+  met-nowhere b = rw (← e, le-ltb r n b)
