@@ -17,15 +17,25 @@ isPowerFrom k (suc n) c = eqb c (2 ^ k) || isPowerFrom (suc k) n c
 unfoldable pub sizeAllowed : ℕ → Bool
 sizeAllowed c = isPowerFrom 3 10 c
 
+-- sixteen bits above sixteen: the layout of a cell and of an answer
+abbrev pub upperHalf : ℕ → ℕ
+upperHalf w = w / 65536
+
+abbrev pub lowerHalf : ℕ → ℕ
+lowerHalf w = w % 65536
+
+abbrev pub joined : ℕ → ℕ → ℕ
+joined upper lower = upper * 65536 + lower
+
 -- "The key is the upper sixteen bits of the word, the total the lower sixteen."
 abbrev pub keyOf : ℕ → ℕ
-keyOf w = w / 65536
+keyOf w = upperHalf w
 
 abbrev pub totalBits : ℕ → ℕ
-totalBits w = w % 65536
+totalBits w = lowerHalf w
 
 abbrev pub cellWord : ℕ → ℕ → ℕ
-cellWord key total = key * 65536 + total
+cellWord key total = joined key total
 
 -- "Keys 1 to 65,534 are live."
 unfoldable pub isLiveKey : ℕ → Bool
@@ -99,13 +109,13 @@ operationAllowed w =
 
 -- "Answers are 32-bit: code × 65,536 + total."
 abbrev pub answerCode : ℕ → ℕ
-answerCode w = w / 65536
+answerCode w = upperHalf w
 
 abbrev pub answerTotal : ℕ → ℕ
-answerTotal w = w % 65536
+answerTotal w = lowerHalf w
 
 abbrev pub packedAnswer : ℕ → ℕ → ℕ
-packedAnswer code total = code * 65536 + total
+packedAnswer code total = joined code total
 
 -- "Codes 0, 2, 6 and 7 carry total 0."
 unfoldable pub carried : Option Total → ℕ

@@ -2,8 +2,7 @@
 // together by shifts and masks; and whether a key is live. The contracts say each field as a quotient
 // or a remainder, so that callers need not reason about bits. Every function takes every input.
 ghost use mathlib.Core.Path.{_≡_};
-ghost use Prim.Native.Nat.{_+_, _*_, _/_, _%_};
-ghost use Rattle.semantics.specs.Words.{keyOf, totalBits, cellWord, answerCode, answerTotal, packedAnswer, isLiveKey};
+ghost use Rattle.semantics.specs.Words.{upperHalf, lowerHalf, joined, keyOf, totalBits, cellWord, answerCode, answerTotal, packedAnswer, isLiveKey};
 
 // The word of a tombstone: key 65,535 with total 0.
 pub const TOMBSTONE: u32 = 65535 << 16;
@@ -26,19 +25,19 @@ pub const FULL: u32 = 7 << 16;
 
 // Sixteen bits above sixteen: the layout of a cell and of an answer.
 fn upper_half(w: u32) -> u16
-    ensures { λ r. ⌜ r ≡ w / 65536 ⌝ }
+    ensures { λ r. ⌜ r ≡ upperHalf w ⌝ }
 {
     (w >> 16) as u16
 }
 
 fn lower_half(w: u32) -> u16
-    ensures { λ r. ⌜ r ≡ w % 65536 ⌝ }
+    ensures { λ r. ⌜ r ≡ lowerHalf w ⌝ }
 {
     (w & 0xffff) as u16
 }
 
 fn joined(upper: u16, lower: u16) -> u32
-    ensures { λ r. ⌜ r ≡ upper * 65536 + lower ⌝ }
+    ensures { λ r. ⌜ r ≡ joined upper lower ⌝ }
 {
     ((upper as u32) << 16) | (lower as u32)
 }
