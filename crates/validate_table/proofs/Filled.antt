@@ -34,22 +34,19 @@ ahead c h i l b =
 around : (c h i : ℕ) → i < h → h < c → i + c - h ≡ distance c h i
 around c h i l b = sym (mod-eq-of-lt (omega arith))
 
--- so h lies further back than the cells from s on, where s is c too large, if it lies before s
+-- what lies d before n lies before s if it is further back than the cells from s on
+before : (a d n s : ℕ) → a + d ≡ n → s ≤ n → ltb a s ≡ ltb (n - s) d
+before a d n s e m = elim (decLt a s) [
+  | yes t ↦ lt-ltb a s t ∙ sym (lt-ltb (n - s) d (omega arith))
+  | no t ↦ le-ltb a s (omega arith) ∙ sym (le-ltb (n - s) d (omega arith))
+]
+
+-- so does h, where s is c too large
 pub before-ahead : (c h i s : ℕ) → h ≤ i → i < c → s ≤ i + c → ltb (h + c) s ≡ ltb (i + c - s) (distance c h i)
-before-ahead c h i s l b m =
-    let e = ahead c h i l b in
-    elim (decLt (h + c) s) [
-      | yes t ↦ lt-ltb (h + c) s t ∙ sym (lt-ltb (i + c - s) (distance c h i) (omega arith))
-      | no t ↦ le-ltb (h + c) s (omega arith) ∙ sym (le-ltb (i + c - s) (distance c h i) (omega arith))
-    ]
+before-ahead c h i s l b m = before (h + c) (distance c h i) (i + c) s (omega (arith, ahead c h i l b)) m
 
 pub before-around : (c h i s : ℕ) → i < h → h < c → s ≤ i + c → ltb h s ≡ ltb (i + c - s) (distance c h i)
-before-around c h i s l b m =
-    let e = around c h i l b in
-    elim (decLt h s) [
-      | yes t ↦ lt-ltb h s t ∙ sym (lt-ltb (i + c - s) (distance c h i) (omega arith))
-      | no t ↦ le-ltb h s (omega arith) ∙ sym (le-ltb (i + c - s) (distance c h i) (omega arith))
-    ]
+before-around c h i s l b m = before h (distance c h i) (i + c) s (omega (arith, around c h i l b)) m
 
 -- the same cell, from h on and from i back
 same-cell : (c h i d : ℕ) → h < c → i < c → d < distance c h i → (h + (distance c h i - (d + 1))) % c ≡ (i + c - (d + 1)) % c
