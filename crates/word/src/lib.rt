@@ -62,16 +62,16 @@ pub fn cell_word(key: u16, total: u16) -> u32
 }
 
 // An answer: its code above its total. A code is at most 7, but any word has sixteen bits there.
-pub fn answer_code(w: u32) -> u16
-    ensures { λ r. ⌜ r ≡ answerCode w ⌝ }
+pub fn answer_code(answer: u32) -> u16
+    ensures { λ r. ⌜ r ≡ answerCode answer ⌝ }
 {
-    upper_half(w)
+    upper_half(answer)
 }
 
-pub fn answer_total(w: u32) -> u16
-    ensures { λ r. ⌜ r ≡ answerTotal w ⌝ }
+pub fn answer_total(answer: u32) -> u16
+    ensures { λ r. ⌜ r ≡ answerTotal answer ⌝ }
 {
-    lower_half(w)
+    lower_half(answer)
 }
 
 pub fn answer_word(code: u8, total: u16) -> u32
