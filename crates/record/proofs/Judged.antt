@@ -21,7 +21,7 @@ use Rattle.semantics.specs.RunFile.{conditionsAt, markCut, markWrong, bodyCut, 
 use Rattle.semantics.proofs.Conditions.{none-met}
 use Rattle.semantics.proofs.Records.{Scannable}
 use Rattle.semantics.proofs.Parts.{Agrees, rest-agrees, pair-agrees, mark-agrees}
-use Rattle.semantics.proofs.Tests.{same-test, compared, neither}
+use Rattle.semantics.proofs.Booleans.{same-test, compared, neither}
 use Rattle.faults.specs.Faults.{atFront, faultOf}
 
 -- the record's conditions as tests, in table order

@@ -10,7 +10,7 @@ use Rattle.semantics.specs.Cells.{Kind, find, insert, update, add, remove, Oper
 use Rattle.semantics.specs.Step.{makes, effect, fateCell}
 use Rattle.semantics.specs.Words.{encode, decodeOperation, answerWord, carried}
 use Rattle.semantics.specs.Words.{isKind, kindBits, operationKey, amountBits, kindOf, tombstoneWord, roomSum}
-use Rattle.semantics.proofs.Tests.{both, true-T}
+use Rattle.semantics.proofs.Booleans.{both, true-T}
 use Rattle.rule.specs.declared.Rule.{Rule}
 use Rattle.rule.specs.Rule.{ruleOf, ruleIf, isStay}
 

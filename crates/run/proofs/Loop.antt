@@ -4,7 +4,7 @@
 use mathlib.Core.Path.{_≡_, refl, sym, ap, ap₂, subst, _∙_}
 use Prim.Native.Nat.{ℕ, suc, _+_, _%_, _≤_, _<_}
 use mathlib.Core.Bool.{Bool, true, false, cond, _||_}
-use mathlib.Core.List.{List, [], _∷_, map}
+use mathlib.Core.List.{List, [], _∷_, map, map-map}
 use mathlib.Core.Option.{none, some}
 use native.Mathlib.Nat.{add-zero, mod-eq-of-lt}
 use native.Mathlib.Omega.{arith}
@@ -25,11 +25,11 @@ use Rattle.semantics.specs.Refusals.{Call}
 use Rattle.semantics.specs.Run.{over, machine, answerOf, outcomeOf, acceptedResult}
 use Rattle.semantics.proofs.Counts.{count-le, count-below}
 use Rattle.semantics.proofs.Entries.{entry-idles, entry-steps}
-use Rattle.semantics.proofs.Lists.{map-each, map-map, elem-at, elem-getD, elem-map, elem-set-same, elem-set-other, map-set, map-set-elem}
+use Rattle.semantics.proofs.Lists.{map-each, elem-at, elem-getD, elem-map, elem-set-same, elem-set-other, map-set, map-set-elem}
 use Rattle.semantics.proofs.Narrow.{allowed-bounds, allowed-lawful}
 use Rattle.semantics.proofs.RunPacks.{AllPack, Stands}
 use Rattle.semantics.proofs.Start.{Passed}
-use Rattle.semantics.proofs.Tests.{passed as test-passed}
+use Rattle.semantics.proofs.Booleans.{passed as test-passed}
 use Rattle.semantics.proofs.Words.{operation-parts, encode-decode-all}
 use Rattle.semantics.proofs.WordsHold as hold
 use Rattle.sets.proofs.Sets.{in-none, in-including, size-none, size-including}

@@ -27,7 +27,7 @@ module _ (cells operations schedule answers log : List ℕ) where
   abbrev Promise : Result → Type 0
   Promise left =
       (result ≡ left)
-      × ((left .outcome .number ≡ 0 → LinearizableWords cells operations (left .cells) (left .answers) (take (left .outcome .done) (left .log)))
+      × ((left .outcome .number ≡ 0 → LinearizableWords cells operations schedule (left .cells) (left .answers) (take (left .outcome .done) (left .log)))
       × (left .outcome .number ≡ 0 → TotalsWords cells operations (left .cells) (left .outcome .done)))
 
   pub kept : (left : Result) → result ≡ left → Promise left

@@ -99,7 +99,7 @@ pub fn run(
 ) -> Outcome
     ensures result { λ r. ⌜ runResult (now (cells .entry)) (now (operations .entry)) (now (schedule .entry)) (now (answers .entry)) (now (log .entry))
         ≡ record { outcome = r; cells = now (cells .exit); answers = now (answers .exit); log = now (log .exit) } ⌝ }
-    ensures linearizable { λ r. ⌜ (r .number ≡ 0 → LinearizableWords (now (cells .entry)) (now (operations .entry)) (now (cells .exit)) (now (answers .exit)) (take (r .done) (now (log .exit)))) ⌝ }
+    ensures linearizable { λ r. ⌜ (r .number ≡ 0 → LinearizableWords (now (cells .entry)) (now (operations .entry)) (now (schedule .entry)) (now (cells .exit)) (now (answers .exit)) (take (r .done) (now (log .exit)))) ⌝ }
     ensures totals { λ r. ⌜ (r .number ≡ 0 → TotalsWords (now (cells .entry)) (now (operations .entry)) (now (cells .exit)) (r .done)) ⌝ }
 {
     let refusal = validate(cells, operations, schedule, answers.len(), log.len());

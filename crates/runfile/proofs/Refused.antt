@@ -14,7 +14,7 @@ use Rattle.semantics.specs.Records.{records, recordConditions}
 use Rattle.semantics.specs.RunFile.{start, runFile, sliceTooShort, fileTooLong, readerConditions, readerRefusal, contents, acceptedReading, refusedReading, reading}
 use Rattle.semantics.proofs.Conditions.{NoneMet, none-met, met-here, met-late, early-accepts}
 use Rattle.semantics.proofs.Records.{judgement}
-use Rattle.semantics.proofs.Tests.{neither}
+use Rattle.semantics.proofs.Booleans.{neither}
 
 module _ (file : List ℕ) (cells operations schedule : ℕ) where
   abbrev short : Condition

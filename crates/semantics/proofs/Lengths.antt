@@ -14,7 +14,7 @@ use Rattle.semantics.specs.declared.Outcome.{Outcome}
 use Rattle.semantics.specs.Words.{tombstoneWord, keyOf, totalBits, operationKey, amountBits, kindBits}
 use Rattle.semantics.specs.Text.{text, decimalIn, decimal, textsBelow}
 use Rattle.semantics.specs.Listing.{kindWords, kindWord, codeWords, codeWord, totalText, refusalText, countsText, operationText, answerText, rowText, logText, contentsText, cellText, runText, listing}
-use Rattle.semantics.proofs.Tests.{both}
+use Rattle.semantics.proofs.Booleans.{both}
 
 -- a text of at most n bytes
 pub record Within (n : ℕ) (bytes : List ℕ) : Type 0 where

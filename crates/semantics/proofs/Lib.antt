@@ -1,4 +1,4 @@
-pub mod Tests
+pub mod Booleans
 pub mod Lists
 pub mod Over
 pub mod Counts

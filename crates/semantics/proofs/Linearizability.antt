@@ -3,7 +3,7 @@
 use mathlib.Core.Path.{_≡_, refl, ap, ap₂, sym, _∙_, subst, subst₃}
 use Prim.Native.Nat.{ℕ, suc, _+_, _<_}
 use mathlib.Core.Bool.{Bool, true, false, cond, true≢false}
-use mathlib.Core.List.{List, [], _∷_, _++_, map}
+use mathlib.Core.List.{List, [], _∷_, _++_, map, map-map, map-id, map-append}
 use mathlib.Core.Option.{Option, none, some}
 use native.Mathlib.Omega.{arith}
 use native.Mathlib.Decide.{ℕ-discrete}
@@ -19,7 +19,7 @@ use Rattle.semantics.specs.Step.{step, passed, placeOf, taken, entry, fr
 use Rattle.semantics.specs.Map.{Map, Replay, mapOf, performed, noted, replayOne, replay, Linearizable}
 use Rattle.semantics.proofs.Laws.{Lawful, Accepted}
 use Rattle.semantics.proofs.Counts.{count-set, count-snoc}
-use Rattle.semantics.proofs.Lists.{elem-set-same, elem-set-other, elem-set-all, elem-getD, elem-map, elem-map-all, map-set-elem, map-snoc, foldl-snoc, map-on, map-map, map-id}
+use Rattle.semantics.proofs.Lists.{elem-set-same, elem-set-other, elem-set-all, elem-getD, elem-map, elem-map-all, map-set-elem, foldl-snoc, map-on}
 use Rattle.semantics.proofs.Table.{Agrees, Probed, own-place, located-lookup, size-pos, start-agrees}
 use Rattle.semantics.proofs.Entries.{by-entry, by-run}
 use Rattle.semantics.proofs.Steps.{Standing, Advance, goes-on, completes, advance}
@@ -182,10 +182,10 @@ module _ (S : Setting) (L : Lawful S) (start : List (Cell (S .Total))) (ops : Li
         → map (λ j. answerIn (getElem? (rows′ (finished a)) j)) (log ++ (i ∷ [])) ≡ map some (replay S start ops (log ++ (i ∷ [])) .answers)
     unfolding noted answerIn answered
     answers-more a e =
-        map-snoc (λ j. answerIn (getElem? (rows′ (finished a)) j)) log i
+        map-append (λ j. answerIn (getElem? (rows′ (finished a)) j)) log (i ∷ [])
         ∙ ap₂ (λ (l : List (Option (Answer (S .Total)))) (x : Option (Answer (S .Total))). l ++ (x ∷ [])) (answers-kept (finished a))
         (ap answerIn (elem-set-same rows i (inState (finished a)) at) ∙ ap some e)
-        ∙ sym (map-snoc some (replay S start ops log .answers) (performed S now (r .operation) .answer))
+        ∙ sym (map-append some (replay S start ops log .answers) (performed S now (r .operation) .answer ∷ []))
         ∙ ap (λ (b : Replay (S .Total)). map some (b .answers)) (sym replay-more)
 
     holds-more : (cells′ : List (Cell (S .Total))) (a : Answer (S .Total)) → a ≡ performed S now (r .operation) .answer

@@ -3,7 +3,7 @@
 use mathlib.Core.Path.{_≡_, refl, ap, ap₂, _∙_, subst}
 use Prim.Native.Nat.{ℕ, zero, suc, _<_}
 use mathlib.Core.Bool.{Bool, true, false, cond, _||_, or-true}
-use mathlib.Core.List.{List, [], _∷_, _++_, map}
+use mathlib.Core.List.{List, [], _∷_, _++_, map, map-map, map-id}
 use mathlib.Core.Option.{none, some}
 use native.Mathlib.Nat.{not-suc-le-zero, le-of-suc-le-suc}
 use native.Mathlib.Omega.{arith}
@@ -11,7 +11,7 @@ use borrow.Author.Tests.{eq-eqb}
 use lib.Dec.{T, eqb}
 use lib.ListN.{length, getD, set, getElem?}
 use Rattle.semantics.specs.Basics.{foldl, all, any, count, occurs}
-use Rattle.semantics.proofs.Tests.{both}
+use Rattle.semantics.proofs.Booleans.{both}
 
 pub none-some : {A : Type 0} {a : A} → none ≡ some a → ⊥
 none-some e = let z : _≡_ {A = ℕ} 0 1 = cc in omega arith
@@ -70,22 +70,15 @@ module _ {A B : Type 0} (f : A → B) where
   map-set-elem (x ∷ l) zero {a} b e h = let q : a ≡ x = cc in ap (λ (y : B). y ∷ map f l) (h ∙ ap f q)
   map-set-elem (x ∷ l) (suc i) b e h = ap (λ (r : List B). f x ∷ r) (map-set-elem l i b e h)
 
-  pub map-snoc : (l : List A) (a : A) → map f (l ++ (a ∷ [])) ≡ map f l ++ (f a ∷ [])
-  map-snoc [] a = refl
-  map-snoc (x ∷ l) a = ap (λ (r : List B). f x ∷ r) (map-snoc l a)
-
-pub map-map : {A B C : Type 0} (f : B → C) (g : A → B) (l : List A) → map f (map g l) ≡ map (λ a. f (g a)) l
-map-map f g [] = refl
-map-map {C = C} f g (x ∷ l) = ap (λ (r : List C). f (g x) ∷ r) (map-map f g l)
-
 -- two maps of a list are equal where they are at each element
 pub map-each : {A B : Type 0} (f g : A → B) (l : List A) (d : A) → ((i : ℕ) → i < length l → f (getD l i d) ≡ g (getD l i d)) → map f l ≡ map g l
 map-each f g [] d h = refl
 map-each f g (x ∷ l) d h = ap₂ _∷_ (h 0 (omega arith)) (map-each f g l d (λ i b. h (suc i) (omega arith)))
 
-pub map-id : {A : Type 0} (l : List A) → map (λ a. a) l ≡ l
-map-id [] = refl
-map-id {A} (x ∷ l) = ap (λ (r : List A). x ∷ r) (map-id l)
+-- a list comes back through two maps where each of its elements does
+pub map-back : {A B : Type 0} (f : A → B) (g : B → A) (d : A) (xs : List A)
+    → ((i : ℕ) → i < length xs → g (f (getD xs i d)) ≡ getD xs i d) → map g (map f xs) ≡ xs
+map-back f g d xs h = map-map g f xs ∙ map-each (λ a. g (f a)) (λ a. a) xs d h ∙ map-id xs
 
 -- a fold over one element more is one step more
 pub foldl-snoc : {A B : Type 0} (f : B → A → B) (b : B) (l : List A) (a : A) → foldl f b (l ++ (a ∷ [])) ≡ f (foldl f b l) a

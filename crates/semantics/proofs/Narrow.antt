@@ -12,7 +12,7 @@ use Rattle.semantics.specs.Basics.{any}
 use Rattle.semantics.specs.Totals.{Total, heldAt, plusAt, amounts, anySaturated, sumAt, sameTotal, narrow, narrowCeiling}
 use Rattle.semantics.specs.Words.{isPowerFrom, sizeAllowed, homeIn, narrowSetting, roomSum}
 use Rattle.semantics.proofs.Laws.{Lawful}
-use Rattle.semantics.proofs.Tests.{compared, same-test, beq-refl, beq-sound, absorbs, join, both, either, left, right}
+use Rattle.semantics.proofs.Booleans.{compared, same-test, beq-refl, beq-sound, absorbs, join, both, either, left, right}
 
 pub same-total-refl : (t : Total) → T (sameTotal t t)
 unfolding sameTotal

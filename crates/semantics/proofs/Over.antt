@@ -2,11 +2,10 @@
 -- Assumes nothing.
 use mathlib.Core.Path.{_≡_, refl, sym, ap, ap₂, subst, _∙_}
 use Prim.Native.Nat.{ℕ, suc, _+_, _≤_, _<_}
-use mathlib.Core.List.{List, [], _∷_, _++_, map, append-nil, append-assoc}
+use mathlib.Core.List.{List, [], _∷_, _++_, map, append-nil, append-assoc, map-append}
 use native.Mathlib.Omega.{arith}
 use lib.ListN.{length, getD, set, take, drop, replicate, length-replicate, length-map, length-append, length-set, length-drop, drop-of-length-le, List·getD-append}
 use lib.Seq.{set-append-left, set-append-seam, append-snoc, take-at, drop-at, drop-drop, drop-cons, take-suc, length-take-le}
-use Rattle.semantics.proofs.Lists.{map-snoc}
 use Rattle.semantics.specs.Run.{over}
 
 module _ {A : Type 0} where
@@ -74,4 +73,4 @@ map-next f l d i old now less fits is next =
     let one : suc i ≡ i + 1 = omega arith in
     ap₂ (λ m b. set m i b) is next
     ∙ over-next (map f (take i l)) old i (f (getD l i d)) long (omega arith)
-    ∙ ap (λ m. over m old) (sym (map-snoc f (take i l) (getD l i d)) ∙ ap (map f) (sym (take-suc l i d less)) ∙ ap (λ n. map f (take n l)) one)
+    ∙ ap (λ m. over m old) (sym (map-append f (take i l) (getD l i d ∷ [])) ∙ ap (map f) (sym (take-suc l i d less)) ∙ ap (λ n. map f (take n l)) one)

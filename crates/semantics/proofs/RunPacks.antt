@@ -18,7 +18,7 @@ use Rattle.semantics.specs.Step.{makes, effect, readOwn, read, exhausted
 use Rattle.semantics.specs.Step.{heldCell, sameCell, swapped, step, passed, placeOf, taken, entry, freshRow, begin, run}
 use Rattle.semantics.specs.Words.{narrowSetting}
 use Rattle.semantics.proofs.Lists.{elem-set-all, elem-map-all, set-everywhere}
-use Rattle.semantics.proofs.Tests.{true-T, same-cell-sound}
+use Rattle.semantics.proofs.Booleans.{true-T, same-cell-sound}
 use Rattle.semantics.proofs.Entries.{by-entry, by-run}
 use Rattle.semantics.proofs.Narrow.{same-total-sound}
 use Rattle.semantics.proofs.Words.{Packed, Packs, new-packs}

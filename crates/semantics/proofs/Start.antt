@@ -22,7 +22,7 @@ use Rattle.semantics.specs.Refusals.{sizeNotAllowed, tooMany, tooShort, 
 use Rattle.semantics.proofs.Laws.{Accepted}
 use Rattle.semantics.proofs.Lists.{elem-getD, elem-map-all}
 use Rattle.semantics.proofs.Table.{distance-back}
-use Rattle.semantics.proofs.Tests.{affirmed, neither, other-fails}
+use Rattle.semantics.proofs.Booleans.{affirmed, neither, other-fails}
 use Rattle.semantics.proofs.Narrow.{allowed-lawful}
 use Rattle.semantics.proofs.Words.{live-bounds, Packed, Packs, decode-packs, decode-operation-packed, decode-empty, decode-keyed}
 use Rattle.semantics.proofs.Searches.{none-below}

@@ -20,7 +20,7 @@ use Rattle.semantics.specs.Step.{heldCell, fateCell, newCell, swapAnswer
 use Rattle.semantics.specs.Map.{Map, Done, withPair, unchanged, replaced, stored, perform, performed}
 use Rattle.semantics.proofs.Laws.{Lawful}
 use Rattle.semantics.proofs.Lists.{none-some}
-use Rattle.semantics.proofs.Tests.{true-T, same-cell-sound}
+use Rattle.semantics.proofs.Booleans.{true-T, same-cell-sound}
 use Rattle.semantics.proofs.Table.{keyed-live, keyed-other, Follows, used-set, used-below, Located, Agrees, Probed}
 use Rattle.semantics.proofs.Table.{own-pair, own-alone, missing-alone, free-lacks, passed-lacks, place-below, all-used, probed-set, has-set, lacks-set, agrees-set}
 

@@ -2,9 +2,9 @@
 -- what a swap stores can be packed again; and two words are equal where their cells are.
 -- Assumes nothing.
 use mathlib.Core.Path.{_≡_, refl, ap, ap₂, sym, subst, _∙_}
-use Prim.Native.Nat.{ℕ, zero, suc, _+_, _*_, _≤_, _<_, min, suc-le-suc}
+use Prim.Native.Nat.{ℕ, zero, suc, _+_, _*_, _≤_, _<_, min}
 use mathlib.Core.Bool.{Bool, true, false, cond, _||_, _&&_}
-use mathlib.Core.List.{List, [], _∷_, map}
+use mathlib.Core.List.{List, [], map}
 use mathlib.Core.Option.{none, some}
 use native.Mathlib.Omega.{arith}
 use lib.Dec.{T, eqb, ltb, eqb→eq, ltb→lt}
@@ -15,7 +15,8 @@ use Rattle.semantics.specs.Cells.{Cell, empty, tombstone, live, Kind, fi
 use Rattle.semantics.specs.Step.{Held, vacant, mine, effect, heldCell, fateCell, newCell, sameCell}
 use Rattle.semantics.specs.Words.{isLiveKey, keyOf, totalBits, tombstoneWord, cellAllowed, decode, encode, narrowSetting}
 use Rattle.semantics.specs.Words.{kindBits, operationKey, amountBits, kindOf, kindNumber, isKind, takesAmount, operationAllowed, decodeOperation, encodeOperation, bitsAboveKind}
-use Rattle.semantics.proofs.Tests.{eq→eqb, same-test, passed, both, either, same-cell-refl, same-cell-sound}
+use Rattle.semantics.proofs.Lists.{map-back}
+use Rattle.semantics.proofs.Booleans.{eq→eqb, same-test, passed, both, either, same-cell-refl, same-cell-sound}
 use Rattle.semantics.proofs.Narrow.{narrow-plus, same-total-refl, same-total-sound}
 
 -- a key and a total that fit into a word: those of a live cell, and those of an operation
@@ -201,12 +202,6 @@ unfolding encode
 decode-keyed k w t h e =
     let f = keyed-is-live k (decode w) t e in
     (subst Packs f (decode-packs w h), sym (encode-decode w h) ∙ ap encode f)
-
--- a list comes back through two maps where each of its elements does
-pub map-back : {A B : Type 0} (f : A → B) (g : B → A) (d : A) (xs : List A)
-    → ((i : ℕ) → i < length xs → g (f (getD xs i d)) ≡ getD xs i d) → map g (map f xs) ≡ xs
-map-back f g d [] h = refl
-map-back f g d (x ∷ xs) h = ap₂ _∷_ (h 0 (omega arith)) (map-back f g d xs (λ i b. h (suc i) (suc-le-suc b)))
 
 pub encode-decode-all : (ws : List ℕ) → ((i : ℕ) → i < length ws → T (cellAllowed (getD ws i 0))) → map encode (map decode ws) ≡ ws
 encode-decode-all ws h = map-back decode encode 0 ws (λ i b. encode-decode (getD ws i 0) (h i b))

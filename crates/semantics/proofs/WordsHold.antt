@@ -3,12 +3,12 @@
 use mathlib.Core.Path.{_≡_, refl, ap, sym, subst, _∙_}
 use Prim.Native.Nat.{ℕ, zero, suc, _+_, _≤_, _<_, min, suc-le-suc}
 use mathlib.Core.Bool.{Bool, true, false, cond, true≢false}
-use mathlib.Core.List.{List, [], _∷_, _++_, map}
+use mathlib.Core.List.{List, [], _∷_, _++_, map, map-map}
 use mathlib.Core.Option.{Option, none, some}
 use native.Mathlib.Omega.{arith}
 use lib.Dec.{T, eqb}
 use borrow.Author.Tests.{eqb-true, eqb-false}
-use lib.ListN.{length, getD, getElem?, take, drop, length-map, List·getD-append, List·getD-map}
+use lib.ListN.{length, getD, getElem?, take, drop, length-map, List·getD-map}
 use lib.Seq.{take-at}
 use Rattle.semantics.specs.Basics.{isSome, occurs}
 use Rattle.semantics.specs.Totals.{Total, amounts, narrow, narrowCeiling, sumAt, heldAt}
@@ -20,8 +20,9 @@ use Rattle.semantics.specs.TotalsRule.{TotalsRule, EveryOperationFinishe
 use Rattle.semantics.specs.Words.{decode, encode, decodeOperation, answerWord, narrowSetting, isLiveKey, keyOf, totalBits}
 use Rattle.semantics.specs.Refusals.{Call, runRefusal, callOf}
 use Rattle.semantics.specs.Run.{Result, over, machine, answerOf, outcomeOf, acceptedResult, refusedResult, resultIf, runResult, amountIn, roomTotal, replayWords, LinearizableWords, heldSum, TotalsWords}
-use Rattle.semantics.proofs.Lists.{foldl-snoc, map-on, map-map}
-use Rattle.semantics.proofs.Tests.{passed as affirm}
+use Rattle.semantics.proofs.Lists.{foldl-snoc, map-on}
+use Rattle.semantics.proofs.Over.{over-get}
+use Rattle.semantics.proofs.Booleans.{passed as affirm}
 use Rattle.semantics.proofs.Table.{keyed-live, Looked, nowhere, somewhere, looked}
 use Rattle.semantics.proofs.Linearizability.{linearizable}
 use Rattle.semantics.proofs.TotalsHold.{totals-rule}
@@ -39,9 +40,7 @@ answers-of (r ∷ rows) (suc i) = answers-of rows i
 
 answer-at : (rows : List (Row Total)) (answers : List ℕ) (i : ℕ) → i < length rows
     → getD (over (map answerOf rows) answers) i 0 ≡ answerWord (answerIn (getElem? rows i))
-unfolding over
-answer-at rows answers i h =
-    List·getD-append (map answerOf rows) (drop (length (map answerOf rows)) answers) 0 i (omega (arith, length-map rows answerOf)) ∙ answers-of rows i
+answer-at rows answers i h = over-get (map answerOf rows) answers i 0 (omega (arith, length-map rows answerOf)) ∙ answers-of rows i
 
 unanswered : (rows : List (Row Total)) (i : ℕ) → finishedIn rows i ≡ false → answerWord (answerIn (getElem? rows i)) ≡ 0
 unfolding finishedIn answerWord isSome
@@ -199,7 +198,7 @@ module _ (call : Call) (ok : Passed call) where
         lin schedule .distinct (keyOf (getD words i 0)) i j _ _ (rw back at a) (rw (back, ← e) at b)
 
     words-linearizable : (answers : List ℕ)
-        → LinearizableWords (call .cells) (call .operations) (map encode (m .cells)) (over (map answerOf (m .rows)) answers) (m .log)
+        → LinearizableWords (call .cells) (call .operations) schedule (map encode (m .cells)) (over (map answerOf (m .rows)) answers) (m .log)
     unfolding words roomTotal replayWords
     words-linearizable answers =
         record {
@@ -210,9 +209,9 @@ module _ (call : Call) (ok : Passed call) where
           totals = λ k. ap (λ (l : List (Cell Total)). amountIn (lookup k l)) back ∙ ap amountIn (lin schedule .pairs k);
           used = ap usedCells back ∙ lin schedule .used;
           distinct = one-cell;
-          untouched = λ entries i e.
-              ap (λ (n : Machine Total). map encode (n .cells)) (one-entry entries i)
-              ∙ ap (map encode) (lin entries .untouched i (finishes-none entries i e));
+          untouched = λ entries i last e.
+              ap (λ (n : Machine Total). map encode (n .cells)) (ap after last ∙ one-entry entries i)
+              ∙ ap (map encode) (lin entries .untouched i (finishes-none entries i (ap (λ (l : List ℕ). after l .log) (sym last) ∙ e)));
         }
 
     rule : TotalsRule S start ops schedule
@@ -252,11 +251,11 @@ module _ (cells operations schedule answers log : List ℕ) where
   written-log ok = take-at (end .log) (drop (length (end .log)) log) (doneCount (end .rows)) (sym (lin called ok schedule .counted))
 
   pub linearizable-words : left .outcome .number ≡ 0
-      → LinearizableWords cells operations (left .cells) (left .answers) (take (left .outcome .done) (left .log))
+      → LinearizableWords cells operations schedule (left .cells) (left .answers) (take (left .outcome .done) (left .log))
   unfolding acceptedResult outcomeOf
   linearizable-words e =
       let (ok, q) = accepted e in
-      subst (λ (r : Result). LinearizableWords cells operations (r .cells) (r .answers) (take (r .outcome .done) (r .log))) (sym q)
+      subst (λ (r : Result). LinearizableWords cells operations schedule (r .cells) (r .answers) (take (r .outcome .done) (r .log))) (sym q)
       (rw (written-log ok) (words-linearizable called ok schedule answers))
 
   pub totals-words : left .outcome .number ≡ 0 → TotalsWords cells operations (left .cells) (left .outcome .done)

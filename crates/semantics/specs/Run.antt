@@ -80,8 +80,9 @@ roomTotal k cells = amountIn (lookup k (map decode cells))
 unfoldable pub replayWords : List ℕ → List ℕ → List ℕ → Replay Total
 replayWords cells operations log = replay (narrowSetting (length cells)) (map decode cells) (map decodeOperation operations) log
 
--- Demand 2 on words: from cells and operations a run has left cells′ and answers′, and log′ is the log that it wrote.
-pub record LinearizableWords (cells operations cells′ answers′ log′ : List ℕ) : Type 0 where
+-- Demand 2 on words: from cells and operations a run of a schedule has left cells′ and answers′, and log′ is the log that it wrote. What begins
+-- a schedule is a schedule, so it speaks after every entry.
+pub record LinearizableWords (cells operations schedule cells′ answers′ log′ : List ℕ) : Type 0 where
   -- each finished operation's answer is the map's, the operations taken in log order
   pub answers : map (λ i. getD answers′ i 0) log′ ≡ map (λ a. answerWord (some a)) (replayWords cells operations log′ .answers)
   -- the log names operations, none of them twice; one that it does not name is unfinished and has answer 0
@@ -93,10 +94,9 @@ pub record LinearizableWords (cells operations cells′ answers′ log′ : List
   pub used : usedCells (map decode cells′) ≡ replayWords cells operations log′ .now .used
   -- no key has two live cells
   pub distinct : (i j : ℕ) → T (isLiveKey (keyOf (getD cells′ i 0))) → keyOf (getD cells′ i 0) ≡ keyOf (getD cells′ j 0) → i ≡ j
-  -- an unfinished operation has changed no cell: one more entry, after any others, that lets the log be leaves every word as it was
-  pub untouched : (entries : List ℕ) (i : ℕ)
-      → machine cells operations (entries ++ (i ∷ [])) .log ≡ machine cells operations entries .log
-      → map encode (machine cells operations (entries ++ (i ∷ [])) .cells) ≡ map encode (machine cells operations entries .cells)
+  -- an unfinished operation has changed no cell: a last entry that lets the log be leaves every word as the entries before it left it
+  pub untouched : (entries : List ℕ) (i : ℕ) → schedule ≡ entries ++ (i ∷ []) → log′ ≡ machine cells operations entries .log
+      → cells′ ≡ map encode (machine cells operations entries .cells)
 
 -- "they and the starting total are summed as whole numbers before the sum is held"
 unfoldable pub heldSum : Option ℕ → List Total → Option ℕ

@@ -9,7 +9,7 @@ use lib.ListN.{length, getD, set}
 use lib.Seq.{set-getD}
 use borrow.Author.Tests.{lt-ltb, le-ltb}
 use Rattle.semantics.specs.Words.{isKind, kindBits}
-use Rattle.semantics.proofs.Tests.{both, true-T}
+use Rattle.semantics.proofs.Booleans.{both, true-T}
 use Rattle.turn.specs.declared.Taken.{Taken}
 use Rattle.turn.specs.declared.Turn.the-variants.{Refuse}
 use Rattle.turn.specs.Turn.{readIf, swapIf}
@@ -18,15 +18,11 @@ use Rattle.step.specs.declared.Progress.{Progress}
 use Rattle.step.specs.Progress.{taken, isPending, Left, leftBy, stepTaken, turned, turnEvent}
 
 -- a record that holds a word swaps, and one that holds none reads
-pub taken-swaps : (c operation : ℕ) (p : Progress) (w : ℕ) → p .holds ≡ true → swapIf c operation (isKind (kindBits operation)) (p .held) w ≡ taken c operation p w
+pub taken-by : (c operation : ℕ) (p : Progress) (w : ℕ) {b : Bool} → p .holds ≡ b
+    → let known = isKind (kindBits operation) in
+    cond b (swapIf c operation known (p .held) w) (readIf c operation known (p .passed) w) ≡ taken c operation p w
 unfolding taken
-taken-swaps c operation p w e =
-    let known = isKind (kindBits operation) in
-    ap (λ (b : Bool). cond b (swapIf c operation known (p .held) w) (readIf c operation known (p .passed) w)) (sym e)
-
-pub taken-reads : (c operation : ℕ) (p : Progress) (w : ℕ) → p .holds ≡ false → readIf c operation (isKind (kindBits operation)) (p .passed) w ≡ taken c operation p w
-unfolding taken
-taken-reads c operation p w e =
+taken-by c operation p w e =
     let known = isKind (kindBits operation) in
     ap (λ (b : Bool). cond b (swapIf c operation known (p .held) w) (readIf c operation known (p .passed) w)) (sym e)
 

@@ -13,7 +13,7 @@ use borrow.Author.Tests.{eq-eqb, ne-eqb, ltb-true, not-true}
 use Rattle.semantics.specs.Basics.{all}
 use Rattle.semantics.specs.Text.{text, decimal}
 use Rattle.semantics.specs.Listing.{kindWords, kindWord, codeWords, codeWord, totalText}
-use Rattle.semantics.proofs.Tests.{both, passed}
+use Rattle.semantics.proofs.Booleans.{both, passed}
 use Rattle.text.specs.Writing.{Writing, written}
 use Rattle.terms.specs.Letters.{untilBlank}
 

@@ -13,7 +13,7 @@ use Rattle.semantics.specs.Step.{passes, Effect, Fate, stays, ends, becomes, Si
 use Rattle.semantics.specs.Step.{sight, makes, effect, readOwn, read, exhausted, bounded, heldCell, newCell, fateCell, swapAnswer, swapped, step}
 use Rattle.semantics.specs.Words.{decode, encode, decodeOperation, answerWord, carried, narrowSetting, isLiveKey, keyOf, totalBits}
 use Rattle.semantics.specs.Words.{operationKey, amountBits}
-use Rattle.semantics.proofs.Tests.{both, passed, true-T}
+use Rattle.semantics.proofs.Booleans.{both, passed, true-T}
 use Rattle.rule.specs.declared.Rule.{Rule}
 use Rattle.rule.specs.Rule.{ruleIf, isStay}
 use Rattle.turn.specs.declared.Turn as declared

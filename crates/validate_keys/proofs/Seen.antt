@@ -15,7 +15,7 @@ use Rattle.semantics.specs.Basics.{firstBelow, someBelow}
 use Rattle.semantics.specs.Sets.{isIn, including}
 use Rattle.semantics.specs.Words.{isLiveKey, keyOf}
 use Rattle.semantics.specs.Refusals.{isRepeated}
-use Rattle.semantics.proofs.Tests.{true-T}
+use Rattle.semantics.proofs.Booleans.{true-T}
 use Rattle.semantics.proofs.Words.{live-bounds}
 use Rattle.semantics.proofs.Searches.{none-some-below, some-more, Searching, search-starts, search-goes-on, search-finds}
 use Rattle.sets.proofs.Sets.{in-none, in-including}

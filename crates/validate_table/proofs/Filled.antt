@@ -14,7 +14,7 @@ use borrow.Author.Tests.{eq-eqb, ne-eqb, lt-ltb, le-ltb}
 use Rattle.semantics.specs.Basics.{firstBelow, someBelow}
 use Rattle.semantics.specs.Words.{sizeAllowed, isLiveKey, keyOf, homeIn}
 use Rattle.semantics.specs.Refusals.{isUnreachable}
-use Rattle.semantics.proofs.Tests.{true-T}
+use Rattle.semantics.proofs.Booleans.{true-T}
 use Rattle.semantics.proofs.Narrow.{allowed-lawful}
 use Rattle.semantics.proofs.Searches.{first-below, some-below, none-some-below, Searching, search-starts, search-goes-on, search-finds, search-ends}
 

@@ -5,7 +5,7 @@ use mathlib.Core.Path.{_≡_, sym}
 use native.Mathlib.Omega.{arith}
 use lib.Dec.{ltb}
 use borrow.Author.Tests.{lt-ltb}
-use Rattle.semantics.proofs.Tests.{same-test, compared}
+use Rattle.semantics.proofs.Booleans.{same-test, compared}
 use Rattle.faults.proofs.is_past_most.Statement.{statement}
 use Rattle.faults.proofs.is_past_most.Tie as tie
 

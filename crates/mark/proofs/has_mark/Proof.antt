@@ -5,7 +5,7 @@ use Prim.Native.Nat.{ℕ, _+_, _*_, _<_}
 use mathlib.Core.Bool.{_&&_}
 use lib.Dec.{eqb}
 use Rattle.semantics.specs.RunFile.{byteAt, hasMark}
-use Rattle.semantics.proofs.Tests.{compared, same-test, join, both}
+use Rattle.semantics.proofs.Booleans.{compared, same-test, join, both}
 use borrow.Author.Needs.{needs}
 use Rattle.mark.proofs.has_mark.Statement.{statement}
 use Rattle.mark.proofs.has_mark.Tie as tie

@@ -6,7 +6,7 @@ use Prim.Native.Nat.{ℕ, _*_, _%_, _≤_}
 use native.Mathlib.Nat.{mul-le-mul-right}
 use native.Mathlib.Omega.{arith}
 use borrow.Author.Needs.{needs}
-use Rattle.semantics.proofs.Tests.{true-T}
+use Rattle.semantics.proofs.Booleans.{true-T}
 use Rattle.room.proofs.Powers.{home-is}
 use Rattle.room.proofs.home.Statement.{statement}
 use Rattle.room.proofs.home.Tie as tie

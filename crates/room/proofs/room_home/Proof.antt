@@ -5,7 +5,7 @@ use mathlib.Core.Bool.{true, and-false}
 use native.Mathlib.Omega.{arith}
 use borrow.Author.Needs.{needs}
 use Rattle.semantics.specs.Words.{isLiveKey, sizeAllowed, roomHome}
-use Rattle.semantics.proofs.Tests.{true-T}
+use Rattle.semantics.proofs.Booleans.{true-T}
 use Rattle.semantics.proofs.Words.{live-bounds}
 use Rattle.room.proofs.room_home.Statement.{statement}
 use Rattle.room.proofs.room_home.Tie as tie

@@ -2,13 +2,12 @@
 -- Assumes nothing.
 use mathlib.Core.Path.{_≡_, refl, sym, ap, _∙_}
 use Prim.Native.Nat.{_-_, _≤_}
-use mathlib.Core.List.{map}
+use mathlib.Core.List.{map, map-id}
 use native.Mathlib.Omega.{arith}
 use lib.ListN.{length, take, length-map}
 use lib.Seq.{take-all, length-take-le}
 use borrow.Author.Needs.{needs}
 use Rattle.semantics.specs.Run.{over}
-use Rattle.semantics.proofs.Lists.{map-id}
 use Rattle.semantics.proofs.Over.{over-none, over-length, map-next}
 use Rattle.runfile.proofs.copy.Statement.{statement}
 use Rattle.runfile.proofs.copy.Tie as tie

@@ -4,7 +4,7 @@ use mathlib.Core.Logic.{⊎-elim}
 use Prim.Native.Nat.{_-_}
 use native.Mathlib.Omega.{arith}
 use lib.ListN.{length}
-use Rattle.semantics.proofs.Tests.{true-T}
+use Rattle.semantics.proofs.Booleans.{true-T}
 use Rattle.semantics.proofs.Narrow.{allowed-bounds}
 use Rattle.semantics.proofs.Searches.{search-ends}
 use Rattle.validate_table.proofs.Filled.{Since, filled-within, all-filled, since-start, filled-found, filled-none, filled-more}

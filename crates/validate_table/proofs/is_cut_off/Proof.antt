@@ -4,7 +4,7 @@ use mathlib.Core.Path.{_≡_, sym, ap, _∙_}
 use Prim.Native.Nat.{_<_}
 use native.Mathlib.Omega.{arith}
 use Rattle.semantics.specs.Words.{isLiveKey, keyOf, homeIn}
-use Rattle.semantics.proofs.Tests.{true-T}
+use Rattle.semantics.proofs.Booleans.{true-T}
 use Rattle.semantics.proofs.Narrow.{allowed-bounds, allowed-lawful}
 use Rattle.validate_table.proofs.Filled.{before-ahead, before-around}
 use borrow.Author.Needs.{needs}

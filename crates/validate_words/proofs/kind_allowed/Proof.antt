@@ -6,7 +6,7 @@ use mathlib.Core.Bool.{true, false, not-eq-not}
 use native.Mathlib.Omega.{arith}
 use lib.Dec.{ltb, ltb→lt}
 use Rattle.semantics.specs.Words.{takesAmount, isKind}
-use Rattle.semantics.proofs.Tests.{true-T, both}
+use Rattle.semantics.proofs.Booleans.{true-T, both}
 use Rattle.validate_words.proofs.kind_allowed.Statement.{statement}
 use Rattle.validate_words.proofs.kind_allowed.Tie as tie
 
