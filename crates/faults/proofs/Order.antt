@@ -1,32 +1,56 @@
 -- Which condition of a record with a known mark decides, in table order.
 -- Assumes nothing.
-use mathlib.Core.Path.{_≡_}
-use Prim.Native.Nat.{ℕ, _≤_, _<_}
-use mathlib.Core.Bool.{Bool, true, false, cond}
-use mathlib.Core.List.{List}
+use mathlib.Core.Path.{_≡_, sym, ap, _∙_}
+use Prim.Native.Nat.{ℕ, _+_, _≤_, _<_}
+use mathlib.Core.Bool.{Bool, true, false, cond, not}
+use mathlib.Core.List.{List, [], _∷_}
+use native.Mathlib.Omega.{arith}
+use lib.Dec.{ltb}
 use lib.ListN.{length}
 use borrow.Author.Tests.{lt-ltb, le-ltb}
 use Rattle.semantics.specs.declared.Mark.{Mark}
 use Rattle.semantics.specs.declared.Position.{Position}
-use Rattle.semantics.specs.RunFile.{partOf, mayFollow, sizeOf, isBodyWrong, isOneTooMany}
+use Rattle.semantics.specs.declared.Refusal.{Refusal}
+use Rattle.semantics.specs.Refusals.{firstMet}
+use Rattle.semantics.specs.RunFile.{partOf, mayFollow, sizeOf, isBodyWrong, isOneTooMany, conditionsOf, markWrong, bodyCut, bodyWrong, oneTooMany}
+use Rattle.semantics.proofs.Conditions.{met-here, met-late}
 use Rattle.faults.specs.Faults.{atFront, faultOf}
 
 -- the first condition met, when those before it are not
 module _ (rest : List ℕ) (p : Position) (m : Mark) where
-  pub out-of-order : mayFollow (p .part) (partOf m) ≡ false → 9 ≡ faultOf rest p m
+  abbrev q : Position
+  q = atFront p
+
+  by : {r : Refusal} → firstMet (conditionsOf rest q m) ≡ r → r .number ≡ faultOf rest p m
   unfolding faultOf
-  out-of-order f = rw f
+  by e = sym (ap (λ (r : Refusal). r .number) e)
+
+  pub out-of-order : mayFollow (p .part) (partOf m) ≡ false → 9 ≡ faultOf rest p m
+  unfolding markWrong
+  out-of-order f = by (met-here (markWrong rest q m) (bodyCut rest q m ∷ bodyWrong rest q m ∷ oneTooMany rest q m ∷ []) (ap not f))
 
   module _ (follows : mayFollow (p .part) (partOf m) ≡ true) where
     pub body-is-cut : length rest < sizeOf rest 0 m → 10 ≡ faultOf rest p m
-    unfolding faultOf
-    body-is-cut h = rw (follows, lt-ltb (length rest) (sizeOf rest 0 m) h)
+    unfolding markWrong bodyCut
+    body-is-cut h =
+        by (met-late (markWrong rest q m ∷ []) (bodyCut rest q m ∷ bodyWrong rest q m ∷ oneTooMany rest q m ∷ []) (ap not follows, tt)
+        ∙ met-here (bodyCut rest q m) (bodyWrong rest q m ∷ oneTooMany rest q m ∷ []) (lt-ltb (length rest) (0 + sizeOf rest 0 m) (omega arith)))
 
     module _ (whole : sizeOf rest 0 m ≤ length rest) where
-      pub body-is-wrong : isBodyWrong rest (atFront p) m ≡ true → 11 ≡ faultOf rest p m
-      unfolding faultOf
-      body-is-wrong w = rw (follows, le-ltb (length rest) (sizeOf rest 0 m) whole, w)
+      fits : ltb (length rest) (0 + sizeOf rest 0 m) ≡ false
+      fits = le-ltb (length rest) (0 + sizeOf rest 0 m) (omega arith)
 
-      pub count-decides : (b : Bool) → isBodyWrong rest (atFront p) m ≡ false → isOneTooMany rest (atFront p) m ≡ b → cond b 2 0 ≡ faultOf rest p m
-      unfolding faultOf
-      count-decides b w o = rw (follows, le-ltb (length rest) (sizeOf rest 0 m) whole, w, o)
+      pub body-is-wrong : isBodyWrong rest q m ≡ true → 11 ≡ faultOf rest p m
+      unfolding markWrong bodyCut bodyWrong
+      body-is-wrong w =
+          by (met-late (markWrong rest q m ∷ bodyCut rest q m ∷ []) (bodyWrong rest q m ∷ oneTooMany rest q m ∷ []) (ap not follows, (fits, tt))
+          ∙ met-here (bodyWrong rest q m) (oneTooMany rest q m ∷ []) w)
+
+      pub count-decides : (b : Bool) → isBodyWrong rest q m ≡ false → isOneTooMany rest q m ≡ b → cond b 2 0 ≡ faultOf rest p m
+      unfolding markWrong bodyCut bodyWrong oneTooMany firstMet
+      count-decides b w o =
+          go b o ∙ by (met-late (markWrong rest q m ∷ bodyCut rest q m ∷ bodyWrong rest q m ∷ []) (oneTooMany rest q m ∷ []) (ap not follows, (fits, (w, tt))))
+        where
+          go : (b : Bool) → isOneTooMany rest q m ≡ b → cond b 2 0 ≡ firstMet (oneTooMany rest q m ∷ []) .number
+          go true o = ap (λ (r : Refusal). r .number) (sym (met-here (oneTooMany rest q m) [] o))
+          go false o = ap (λ (r : Refusal). r .number) (sym (met-late (oneTooMany rest q m ∷ []) [] (o, tt)))

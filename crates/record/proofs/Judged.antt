@@ -4,7 +4,7 @@
 use mathlib.Core.Path.{_≡_, refl, sym, ap, ap₂, subst, _∙_}
 use Prim.Native.Nat.{ℕ, _+_, _-_, _≤_, _<_}
 use mathlib.Core.Bool.{Bool, true, false, cond, _||_, true≢false}
-use mathlib.Core.List.{List}
+use mathlib.Core.List.{List, [], _∷_}
 use native.Mathlib.Omega.{arith}
 use lib.Dec.{eqb, leb, ltb}
 use lib.ListN.{length, take, drop, length-drop}
@@ -17,17 +17,12 @@ use Rattle.semantics.specs.declared.Refusal.{Refusal}
 use Rattle.semantics.specs.Refusals.{firstMet}
 use Rattle.semantics.specs.Records.{faultAt}
 use Rattle.semantics.specs.RunFile.{byteAt, pairAt, markAt, partOf, mayFollow, sizeOf, isBodyWrong, isOneTooMany, past, nextOf, runFile}
-use Rattle.semantics.specs.RunFile.{conditionsAt, markCut, markWrong, bodyCut, bodyWrong, oneTooMany}
-use Rattle.semantics.proofs.Conditions.{none-met}
+use Rattle.semantics.specs.RunFile.{conditionsOf, conditionsAt, markCut, markWrong, bodyCut, bodyWrong, oneTooMany}
+use Rattle.semantics.proofs.Conditions.{none-met, met-here, met-late, alike-number}
 use Rattle.semantics.proofs.Records.{Scannable}
 use Rattle.semantics.proofs.Parts.{Agrees, rest-agrees, pair-agrees, mark-agrees}
 use Rattle.semantics.proofs.Booleans.{same-test, compared, neither}
 use Rattle.faults.specs.Faults.{atFront, faultOf}
-
--- the record's conditions as tests, in table order
-number-of : (b : Bool) (r s : Refusal) → cond b r s .number ≡ cond b (r .number) (s .number)
-number-of true r s = refl
-number-of false r s = refl
 
 module _ (file : List ℕ) (p : Position) where
   abbrev rest : List ℕ
@@ -36,14 +31,10 @@ module _ (file : List ℕ) (p : Position) where
   same : Agrees 6 rest file (p .at)
   same = rest-agrees 6 file (p .at)
 
-  judged : faultAt runFile file p
-      ≡ cond (markCut file p .met) 10 (cond (markWrong file p .met) 9 (cond (bodyCut file p .met) 10 (cond (bodyWrong file p .met) 11 (cond (oneTooMany file p .met) 2 0))))
-  unfolding faultAt conditionsAt firstMet markCut markWrong bodyCut bodyWrong oneTooMany
-  judged = simp number-of
-
   pub mark-is-cut : length file < p .at + 2 → 10 ≡ faultAt runFile file p
-  unfolding markCut
-  mark-is-cut h = sym (judged ∙ rw (lt-ltb (length file) (p .at + 2) h))
+  unfolding faultAt conditionsAt markCut
+  mark-is-cut h =
+      ap (λ (r : Refusal). r .number) (sym (met-here (markCut file p) (conditionsOf file p (markAt file (p .at))) (lt-ltb (length file) (p .at + 2) h)))
 
   -- what is read of the bytes from the record on is what is read in its place
   size-same : (m : Mark) → sizeOf rest 0 m ≡ sizeOf file (p .at) m
@@ -72,12 +63,15 @@ module _ (file : List ℕ) (p : Position) where
   count-same Unknown = refl
 
   on-rest : p .at + 2 ≤ length file → faultOf rest p (markAt rest 0) ≡ faultAt runFile file p
-  unfolding faultOf markCut markWrong bodyCut bodyWrong oneTooMany
+  unfolding faultOf faultAt conditionsAt markCut markWrong bodyCut bodyWrong oneTooMany
   on-rest whole =
       let m = markAt file (p .at) in
-      let cut : ltb (length rest) (sizeOf file (p .at) m) ≡ ltb (length file) (p .at + sizeOf file (p .at) m) =
-      same-test _ _ (λ t. omega (compared, length-drop (p .at) file)) (λ t. omega (compared, length-drop (p .at) file)) in
-      rw (judged, le-ltb (length file) (p .at + 2) whole, mark-agrees same (omega arith), size-same m, body-same m, count-same m, cut)
+      let here = conditionsOf file p m in
+      let cut : ltb (length rest) (0 + sizeOf rest 0 m) ≡ ltb (length file) (p .at + sizeOf file (p .at) m) =
+      same-test _ _ (λ t. omega (compared, length-drop (p .at) file, size-same m)) (λ t. omega (compared, length-drop (p .at) file, size-same m)) in
+      ap (λ n. firstMet (conditionsOf rest (atFront p) n) .number) (mark-agrees same (omega arith))
+      ∙ alike-number (conditionsOf rest (atFront p) m) here (refl, refl, (refl, cut, (refl, body-same m, (refl, count-same m, tt))))
+      ∙ ap (λ (r : Refusal). r .number) (sym (met-late (markCut file p ∷ []) here (le-ltb (length file) (p .at + 2) whole, tt)))
 
   -- so the bytes from a whole mark on, lent as a part of the file, say why its record is turned away
   pub by-rest : p .at + 2 ≤ length file → {m M : Mark} → m ≡ markAt (take (length file - p .at) rest) 0 → m ≡ M → {n : ℕ}

@@ -65,6 +65,25 @@ pub met-none : firstMet [] ≡ record { number = 0; place = 0 }
 unfolding firstMet
 met-none = refl
 
+-- tables of the same numbers, met alike, decide by the same number, whatever the places
+abbrev pub Alike : List Condition → List Condition → Type 0
+Alike [] [] = Unit
+Alike [] (d ∷ ds) = ⊥
+Alike (c ∷ cs) [] = ⊥
+Alike (c ∷ cs) (d ∷ ds) = (c .number ≡ d .number) × (c .met ≡ d .met) × Alike cs ds
+
+pub alike-number : (cs ds : List Condition) → Alike cs ds → firstMet cs .number ≡ firstMet ds .number
+unfolding firstMet
+alike-number [] [] h = refl
+alike-number [] (d ∷ ds) h = absurd h
+alike-number (c ∷ cs) [] h = absurd h
+alike-number (c ∷ cs) (d ∷ ds) h = rw (h .1) (go (d .met) (alike-number cs ds (h .2)))
+  where
+    go : (b : Bool) → firstMet cs .number ≡ firstMet ds .number
+        → cond b (record { number = c .number; place = c .place }) (firstMet cs) .number ≡ cond b (record { number = d .number; place = d .place }) (firstMet ds) .number
+    go true r = h .0
+    go false r = r
+
 -- conditions of one place: the first that is met has it
 abbrev pub Placed : ℕ → List Condition → Type 0
 Placed at [] = Unit

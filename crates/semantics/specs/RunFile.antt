@@ -101,34 +101,35 @@ module _ (file : List ℕ) where
   past p Schedule = moved p Schedule (p .size) (p .lowest) (p .operations) (p .entries + byteAt file (p .at + 2))
   past p Unknown = p
 
-  module _ (p : Position) where
-    abbrev markHere : Mark
-    markHere = markAt file (p .at)
-
-    -- 10: "empty file, or fewer than two bytes of a mark"
-    unfoldable pub markCut : Condition
-    markCut = record { number = 10; met = ltb (length file) (p .at + 2); place = p .at }
-
+  -- "reader, each record", in table order: what turns a record with a whole mark away
+  module _ (p : Position) (mark : Mark) where
     -- 9: "unknown mark, or mark out of order"
     unfoldable pub markWrong : Condition
-    markWrong = record { number = 9; met = not (mayFollow (p .part) (partOf markHere)); place = p .at }
+    markWrong = record { number = 9; met = not (mayFollow (p .part) (partOf mark)); place = p .at }
 
     -- 10: "body incomplete"
     unfoldable pub bodyCut : Condition
-    bodyCut = record { number = 10; met = ltb (length file) (p .at + sizeOf (p .at) markHere); place = p .at }
+    bodyCut = record { number = 10; met = ltb (length file) (p .at + sizeOf (p .at) mark); place = p .at }
 
     unfoldable pub bodyWrong : Condition
-    bodyWrong = record { number = 11; met = isBodyWrong p markHere; place = p .at }
+    bodyWrong = record { number = 11; met = isBodyWrong p mark; place = p .at }
 
     unfoldable pub oneTooMany : Condition
-    oneTooMany = record { number = 2; met = isOneTooMany p markHere; place = p .at }
+    oneTooMany = record { number = 2; met = isOneTooMany p mark; place = p .at }
 
-    -- "reader, each record", in table order
+    abbrev pub conditionsOf : List Condition
+    conditionsOf = markWrong ∷ bodyCut ∷ bodyWrong ∷ oneTooMany ∷ []
+
+  module _ (p : Position) where
+    -- 10, before those: "empty file, or fewer than two bytes of a mark"
+    unfoldable pub markCut : Condition
+    markCut = record { number = 10; met = ltb (length file) (p .at + 2); place = p .at }
+
     unfoldable pub conditionsAt : List Condition
-    conditionsAt = markCut ∷ markWrong ∷ bodyCut ∷ bodyWrong ∷ oneTooMany ∷ []
+    conditionsAt = markCut ∷ conditionsOf p (markAt file (p .at))
 
     unfoldable pub nextOf : Position
-    nextOf = past p markHere
+    nextOf = past p (markAt file (p .at))
 
 abbrev pub runFile : Format
 runFile = record { Place = Position; offset = λ p. p .at; conditions = conditionsAt; next = nextOf }
