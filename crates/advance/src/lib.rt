@@ -19,7 +19,9 @@ pub fn advance(cells: &mut [u32], operation: u64, progress: &mut Progress) -> Ev
     stepped.event
 }
 
-// The same for callers that keep their records by value: a local record is lent and handed back.
+// The same by value, equal to step::step: a local record is lent and handed back. The run goes through
+// here, so that the step over a lent record is the one that is taken; an element of its array of
+// records could be lent only in a proof by hand.
 pub fn take_step(cells: &mut [u32], operation: u64, progress: Progress) -> Stepped
     ensures { λ r. ⌜ (r ≡ stepTaken (now (cells .entry)) operation progress .stepped)
         × (now (cells .exit) ≡ set (now (cells .entry)) (progress .at) (stepTaken (now (cells .entry)) operation progress .word)) ⌝ }

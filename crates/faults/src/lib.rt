@@ -6,6 +6,7 @@ ghost use mathlib.Core.Path.{_≡_};
 ghost use mathlib.Core.Bool.{_||_};
 ghost use Prim.Native.Nat.{_+_};
 ghost use lib.Dec.{eqb, leb, ltb};
+ghost use Rattle.semantics.specs.Refusals.{mostEntries};
 ghost use Rattle.faults.specs.Faults.{faultOf};
 use mark::byte_at;
 use mark::may_follow;
@@ -40,7 +41,7 @@ fn is_cell_wrong(cell: u16, lowest: usize, size: usize, key: u16) -> bool
 // 2, of an SC record: some entries too many. No position that was reached has more than 16,384
 // entries, but one may be handed in.
 fn is_past_most(entries: usize, count: u8) -> bool
-    ensures { λ r. ⌜ r ≡ ltb 16384 (entries + count) ⌝ }
+    ensures { λ r. ⌜ r ≡ ltb mostEntries (entries + count) ⌝ }
 {
     if MOST_ENTRIES < entries {
         return true;

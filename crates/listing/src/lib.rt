@@ -7,7 +7,9 @@ ghost use mathlib.Core.List.{_++_};
 ghost use Prim.Native.Nat.{_≤_, _<_, min};
 ghost use lib.Dec.{leb};
 ghost use lib.ListN.{length, getD};
-ghost use Rattle.semantics.specs.Text.{text, decimal, textsBelow, handed};
+ghost use Rattle.semantics.specs.Text.{text, decimal, textsBelow, mostText, handed};
+ghost use Rattle.semantics.specs.Refusals.{mostOperations};
+ghost use Rattle.semantics.specs.RunFile.{mostCells};
 ghost use Rattle.semantics.specs.Listing.{logText, listing};
 ghost use Rattle.text.specs.Writing.{lastPosition, written};
 use cell_lines::put_cells;
@@ -16,8 +18,10 @@ use lines::put_refusal;
 use row_lines::put_rows;
 use semantics::MOST_CELLS;
 use semantics::MOST_OPERATIONS;
+use semantics::MOST_TEXT;
 use semantics::Outcome;
 use semantics::Written;
+use text::LAST_POSITION;
 use text::put;
 use text::put_bytes;
 use text::put_labelled;
@@ -78,16 +82,16 @@ fn put_listing(
 // A length that no text of so many operations, log bytes and cells exceeds; where none is known, one
 // that no slice has.
 fn most_bytes(operations: usize, log: usize, cells: usize) -> usize
-    ensures { λ r. ⌜ (r < lastPosition → (98304 ≤ r) × (operations ≤ 64) × (log ≤ 64) × (cells ≤ 4096)) ⌝ }
+    ensures { λ r. ⌜ (r < lastPosition → (mostText ≤ r) × (operations ≤ mostOperations) × (log ≤ mostOperations) × (cells ≤ mostCells)) ⌝ }
 {
     if operations <= MOST_OPERATIONS {
         if log <= MOST_OPERATIONS {
             if cells <= MOST_CELLS {
-                return 98304;
+                return MOST_TEXT;
             }
         }
     }
-    18446744073709551615
+    LAST_POSITION
 }
 
 // Whether a text fits. Where any would, it is not looked at; elsewhere it is measured, on a slice of

@@ -14,7 +14,7 @@ use Rattle.semantics.specs.declared.Outcome.{Outcome}
 use Rattle.semantics.specs.declared.Refusal.{Refusal}
 use Rattle.semantics.specs.Refusals.{mostOperations, mostEntries}
 use Rattle.semantics.specs.Run.{Result, over}
-use Rattle.semantics.specs.Text.{Handed, handed}
+use Rattle.semantics.specs.Text.{mostText, Handed, handed}
 use Rattle.semantics.specs.RunFile.{Contents, Reading, contents, mostCells, readerRefusal, acceptedReading, refusedReading, reading}
 use Rattle.semantics.specs.Listing.{listing, refusalText}
 use Rattle.semantics.specs.Response.{runOf, listed, response}
@@ -104,7 +104,7 @@ module _ (bytes out : List ℕ) where
 module _ (file out : List ℕ) where
   abbrev Promise : Handed → Type 0
   Promise h =
-      (handed (response file) out ≡ h) × ((98304 ≤ length out → h .written .number ≡ 0) × Counts (h .written .length) (h .out))
+      (handed (response file) out ≡ h) × ((mostText ≤ length out → h .written .number ≡ 0) × Counts (h .written .length) (h .out))
 
   pub kept : (bytes : List ℕ) (h : Handed) → response file ≡ bytes → handed bytes out ≡ h → Promise h
   unfolding Hands

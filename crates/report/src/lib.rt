@@ -5,7 +5,7 @@ ghost use Prim.Native.Nat.{_≤_};
 ghost use lib.ListN.{length};
 ghost use Rattle.io.specs.Counts.{Counts};
 ghost use Rattle.semantics.specs.Run.{runResult};
-ghost use Rattle.semantics.specs.Text.{handed};
+ghost use Rattle.semantics.specs.Text.{mostText, handed};
 ghost use Rattle.semantics.specs.Response.{listed, response};
 use listing::list;
 use outcome::refused;
@@ -36,7 +36,7 @@ fn run_and_list(
 // of the slice, or not at all if the slice is too short. 98,304 bytes are enough for any file.
 pub fn report(file: &[u8], out: &mut [u8]) -> Written
     ensures result { λ r. ⌜ handed (response (now (file .entry))) (now (out .entry)) ≡ record { written = r; out = now (out .exit) } ⌝ }
-    ensures suffices { λ r. ⌜ (98304 ≤ length (now (out .entry)) → r .number ≡ 0) ⌝ }
+    ensures suffices { λ r. ⌜ (mostText ≤ length (now (out .entry)) → r .number ≡ 0) ⌝ }
     ensures counted { λ r. ⌜ Counts (r .length) (now (out .exit)) ⌝ }
 {
     let mut cells = [0u32; MOST_CELLS];

@@ -8,11 +8,12 @@ use io::write_all;
 use libc::STDIN_FILENO;
 use libc::STDOUT_FILENO;
 use report::report;
+use semantics::MOST_TEXT;
 
 fn main() {
     let mut file = large_buffer();
     let n = read_full(STDIN_FILENO, &mut file);
-    let mut text = [0u8; 98304];
+    let mut text = [0u8; MOST_TEXT];
     let written = report(&file[..n], &mut text);
     let length = written.length;
     write_all(STDOUT_FILENO, &text[..length]);

@@ -16,6 +16,7 @@ use Rattle.semantics.specs.Refusals.{Call, callOf, mostOperations, mostE
 use Rattle.semantics.specs.Run.{Result, machine, acceptedResult, outcomeOf}
 use Rattle.semantics.specs.RunFile.{Contents, contents, readerRefusal, mostCells}
 use Rattle.semantics.specs.Words.{cellAllowed, encode, tombstoneWord}
+use Rattle.semantics.specs.Text.{mostText}
 use Rattle.semantics.specs.Listing.{refusalText}
 use Rattle.semantics.specs.Response.{runOf, listed, response}
 use Rattle.semantics.proofs.Counts.{count-le}
@@ -54,7 +55,7 @@ module _ (h : Contents) where
         words = λ i. subst (λ w. w < 2 ^ 32) (sym (List·getD-map encode (end .cells) i empty)) (word-fits _ (encode-allowed (getD (end .cells) i empty) (p .cells i)));
       }
 
-  run-listed : Within 98304 (listed (h .operations) (runOf h))
+  run-listed : Within mostText (listed (h .operations) (runOf h))
   unfolding listed runOf
   run-listed = listing-within (runOf h .outcome) (h .operations) (runOf h .answers) (runOf h .log) (runOf h .cells) bounds
     where
@@ -63,7 +64,7 @@ module _ (h : Contents) where
           let (ok, q) = accepted (h .cells) (h .operations) (h .schedule) slice slice e in
           subst Bounds (sym q) (small ok)
 
-pub bounded : (file : List ℕ) → length (response file) ≤ 98304
+pub bounded : (file : List ℕ) → length (response file) ≤ mostText
 unfolding response
 bounded file = go (eqb (number-of .number) 0) .most
   where
@@ -71,6 +72,6 @@ bounded file = go (eqb (number-of .number) 0) .most
     number-of = readerRefusal file mostCells mostOperations mostEntries
 
     go : (z : Bool)
-        → Within 98304 (cond z (listed (contents file .operations) (runOf (contents file))) (refusalText (number-of .number) (number-of .place)))
+        → Within mostText (cond z (listed (contents file .operations) (runOf (contents file))) (refusalText (number-of .number) (number-of .place)))
     go true = run-listed (contents file)
-    go false = looser 98304 (omega arith) (refusal (number-of .number) (number-of .place))
+    go false = looser mostText (omega arith) (refusal (number-of .number) (number-of .place))

@@ -12,7 +12,7 @@ use borrow.Author.Tests.{ltb-false, le-leb, eqb-true}
 use Rattle.semantics.specs.Basics.{all}
 use Rattle.semantics.specs.declared.Outcome.{Outcome}
 use Rattle.semantics.specs.Words.{tombstoneWord, keyOf, totalBits, operationKey, amountBits, kindBits}
-use Rattle.semantics.specs.Text.{text, decimalIn, decimal, textsBelow}
+use Rattle.semantics.specs.Text.{text, decimalIn, decimal, textsBelow, mostText}
 use Rattle.semantics.specs.Listing.{kindWords, kindWord, codeWords, codeWord, totalText, refusalText, countsText, operationText, answerText, rowText, logText, contentsText, cellText, runText, listing}
 use Rattle.semantics.proofs.Booleans.{both}
 
@@ -170,20 +170,20 @@ pub record Small (o : Outcome) (operations log cells : List ℕ) : Type 0 where
   pub words : (i : ℕ) → getD cells i 0 < 2 ^ 32
 
 module _ (o : Outcome) (operations answers log cells : List ℕ) where
-  run-within : Small o operations log cells → Within 98304 (runText o operations answers log cells)
+  run-within : Small o operations log cells → Within mostText (runText o operations answers log cells)
   unfolding runText
   run-within s =
-      looser 98304 (omega arith)
+      looser mostText (omega arith)
       (counts (length operations) o
       then rows (length operations) operations answers (s .rows)
       then entries (o .done) log (s .entries)
       then cell-lines (length cells) cells (s .size) (s .words))
 
-  pub listing-within : (o .number ≡ 0 → Small o operations log cells) → Within 98304 (listing o operations answers log cells)
+  pub listing-within : (o .number ≡ 0 → Small o operations log cells) → Within mostText (listing o operations answers log cells)
   unfolding listing
   listing-within small = go (eqb (o .number) 0) refl
     where
       go : (z : Bool) → eqb (o .number) 0 ≡ z
-          → Within 98304 (cond z (runText o operations answers log cells) (refusalText (o .number) (o .place)))
+          → Within mostText (cond z (runText o operations answers log cells) (refusalText (o .number) (o .place)))
       go true e = run-within (small (eqb-true (o .number) 0 e))
-      go false e = looser 98304 (omega arith) (refusal (o .number) (o .place))
+      go false e = looser mostText (omega arith) (refusal (o .number) (o .place))

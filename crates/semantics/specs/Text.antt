@@ -29,6 +29,10 @@ unfoldable pub textsBelow : ℕ → (ℕ → List ℕ) → List ℕ
 textsBelow zero f = []
 textsBelow (suc n) f = textsBelow n f ++ f n
 
+-- no text of a run or of a refusal is longer (proofs/Lengths.antt)
+abbrev pub mostText : ℕ
+mostText = 98304
+
 -- what a call that writes bytes leaves: how many it wrote or why it was turned away, and the lent slice
 pub record Handed : Type 0 where
   pub written : Written

@@ -8,6 +8,9 @@ pub const MOST_OPERATIONS: usize = 64;
 
 pub const MOST_ENTRIES: usize = 16384;
 
+// No text of a run that those limits allow is longer, nor is that of a refusal.
+pub const MOST_TEXT: usize = 98304;
+
 // Why a call is turned away: document 01's number of the refusal, and its place. An accepted call
 // has number 0 and place 0.
 pub struct Refusal {

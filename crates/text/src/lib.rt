@@ -8,7 +8,10 @@ ghost use Rattle.semantics.specs.Text.{decimal as Text·decimal};
 ghost use Rattle.text.specs.Writing.{written};
 use io::decimal;
 
-// One byte. The position is held at the largest usize, where no slice has a byte.
+// The largest position that is counted: no slice is as long.
+pub const LAST_POSITION: usize = 18446744073709551615;
+
+// One byte. The position is held at the last, where no slice has a byte.
 pub fn put(out: &mut [u8], at: usize, b: u8) -> usize
     ensures { λ r. ⌜ written (record { at = at; out = now (out .entry) }) (b ∷ []) ≡ record { at = r; out = now (out .exit) } ⌝ }
 {
@@ -16,7 +19,7 @@ pub fn put(out: &mut [u8], at: usize, b: u8) -> usize
         out[at] = b;
         return at + 1;
     }
-    if at < 18446744073709551615 {
+    if at < LAST_POSITION {
         return at + 1;
     }
     at

@@ -6,7 +6,7 @@ ghost use mathlib.Core.Bool.{true, cond, _&&_};
 ghost use Prim.Native.Nat.{ℕ, suc};
 ghost use lib.Dec.{eqb};
 ghost use Rattle.semantics.specs.Step.{makes};
-ghost use Rattle.semantics.specs.Words.{keyOf, totalBits, kindBits, operationKey, isLiveKey, isKind, decodeOperation};
+ghost use Rattle.semantics.specs.Words.{keyOf, totalBits, kindBits, operationKey, isLiveKey, isKind, decodeOperation, packedAnswer};
 ghost use Rattle.rule.specs.Rule.{ruleIf};
 ghost use Rattle.turn.specs.declared.Turn.the-variants.{Hold, Finish};
 ghost use Rattle.turn.specs.Turn.{readTurn, swapOf, readIf, swapIf};
@@ -74,7 +74,7 @@ fn own(operation: u64, word: u32) -> Turn
 // The operation's key is missing: the word is empty, or that of the last cell.
 fn missing(operation: u64, word: u32) -> Turn
     requires { ⌜ isKind (kindBits operation) ≡ true ⌝ }
-    ensures { λ r. ⌜ r ≡ cond (makes (decodeOperation operation .kind)) (cond (eqb word 0) (Hold 0) (Finish 458752)) (Finish 393216) ⌝ }
+    ensures { λ r. ⌜ r ≡ cond (makes (decodeOperation operation .kind)) (cond (eqb word 0) (Hold 0) (Finish (packedAnswer 7 0))) (Finish (packedAnswer 6 0)) ⌝ }
 {
     let rule = rule_of(operation, word);
     if rule.makes {

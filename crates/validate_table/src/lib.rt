@@ -1,7 +1,7 @@
 // The run's refusals 7 and 8 (document 01, "Where a call is turned away", "run, whole table"). Each is a
 // search along the cells: it gives the first index that meets the condition, which is the place, or
-// the number of cells where none does. Before 8 goes along the cells it counts back from the last one;
-// no search looks at a cell more often than that.
+// the number of cells where none does. Before 8 goes along the cells it counts back from the last one,
+// so a cell is looked at at most twice.
 use semantics::Refusal;
 ghost use mathlib.Core.Path.{_≡_};
 ghost use mathlib.Core.Bool.{true, _&&_};
