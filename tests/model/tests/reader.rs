@@ -154,7 +154,7 @@ impl Before {
 /// What is wrong, what stands before, the faulty record and its number.
 type Faulty = (&'static str, Before, &'static [u8], u32);
 
-const FAULTY: [Faulty; 48] = [
+const FAULTY: [Faulty; 37] = [
     ("empty file", Before::Nothing, b"", 10),
     ("a byte of a first mark", Before::Nothing, b"T", 10),
     ("a byte of a mark", Before::Row, b"S", 10),
@@ -192,7 +192,10 @@ const FAULTY: [Faulty; 48] = [
     ("the 65th row", Before::Rows, b"OP\x01\0\x01\0\0", 2),
     ("16,385 entries", Before::Entries, b"SC\x01\0", 2),
     ("the 65th row, faulty", Before::Rows, b"OP\0\0\0\0\0", 2),
-    // Two conditions met by one record: the earlier in the table decides.
+];
+
+/// Records that meet two conditions, and the number of the earlier.
+const TWICE_FAULTY: [Faulty; 11] = [
     ("TB twice and cut short", Before::Table, b"TB", 9),
     ("CL first and cut short", Before::Nothing, b"CL", 9),
     ("SC first and cut short", Before::Nothing, b"SC\x05", 9),
@@ -216,13 +219,26 @@ const FAULTY: [Faulty; 48] = [
     ("too many, cut short", Before::SomeEntries, b"SC\x40\0", 10),
 ];
 
-#[test]
-fn each_faulty_record_alone() {
-    for (what, before, record, number) in FAULTY {
+fn all_faulty() -> impl Iterator<Item = Faulty> {
+    FAULTY.into_iter().chain(TWICE_FAULTY)
+}
+
+fn assert_each_refused(rows: &[Faulty]) {
+    for &(what, before, record, number) in rows {
         let before = before.bytes();
         let file = [&before, record].concat();
         assert_file_refused(&file, number, before.len(), what);
     }
+}
+
+#[test]
+fn each_faulty_record_alone() {
+    assert_each_refused(&FAULTY);
+}
+
+#[test]
+fn of_two_faults_in_a_record_the_earlier_decides() {
+    assert_each_refused(&TWICE_FAULTY);
 }
 
 #[test]
@@ -238,11 +254,11 @@ fn as_many_entries_as_fit_are_read() {
 #[test]
 fn the_first_faulty_record_decides() {
     // A record cut short would be made whole by what follows it.
-    for (what, before, record, number) in FAULTY.iter().filter(|faulty| faulty.3 != 10) {
-        for (_, _, second, _) in FAULTY {
+    for (what, before, record, number) in all_faulty().filter(|faulty| faulty.3 != 10) {
+        for (_, _, second, _) in all_faulty() {
             let before = before.bytes();
-            let file = [&before, *record, second].concat();
-            assert_file_refused(&file, *number, before.len(), what);
+            let file = [&before, record, second].concat();
+            assert_file_refused(&file, number, before.len(), what);
         }
     }
 }
@@ -256,7 +272,7 @@ fn a_short_slice_decides_before_the_file() {
         (0, 0, 0),
     ];
     let mut files = vec![(tb(3), "a good file"), (vec![0; 65_536], "a long file")];
-    for (what, before, record, _) in FAULTY {
+    for (what, before, record, _) in all_faulty() {
         files.push(([&before.bytes(), record].concat(), what));
     }
     for (cells, operations, schedule) in short {
@@ -269,7 +285,7 @@ fn a_short_slice_decides_before_the_file() {
 
 #[test]
 fn a_long_file_decides_before_its_records() {
-    for (what, before, record, _) in FAULTY {
+    for (what, before, record, _) in all_faulty() {
         let mut file = [&before.bytes(), record].concat();
         file.resize(65_536, 0);
         assert_file_refused(&file, 12, 0, what);
