@@ -4,6 +4,7 @@ ghost use Rattle.step.specs.Progress.{begun};
 ghost use Rattle.begin.specs.Records.{firstRecords};
 use operation::operation_key;
 use room::room_home;
+use semantics::MOST_OPERATIONS;
 use step::Progress;
 
 // Reading at the key's home, with no cell passed.
@@ -21,12 +22,12 @@ fn reading_at(home: usize) -> Progress
 
 // Each operation reads first at the home of its key. There is room for 64: any further ones have no
 // record.
-pub fn begin(c: u32, operations: &[u64]) -> [Progress; 64]
+pub fn begin(c: u32, operations: &[u64]) -> [Progress; MOST_OPERATIONS]
     ensures { λ r. ⌜ r ≡ firstRecords c (now (operations .entry)) ⌝ }
 {
-    let mut records = [reading_at(0); 64];
+    let mut records = [reading_at(0); MOST_OPERATIONS];
     let mut i = 0;
-    while i < 64 {
+    while i < MOST_OPERATIONS {
         if i == operations.len() {
             return records;
         }

@@ -236,6 +236,6 @@ answerIn (some r) = answered (r .state)
 unfoldable pub finishedIn : {T : Type 0} → List (Row T) → ℕ → Bool
 finishedIn rows i = isSome (answerIn (getElem? rows i))
 
--- "Finished rows are a set of 64 places, and the done count is its size."
+-- "Finished rows are a set of 64 places, and the done count is its size": how many there are. Sets.antt has such sets.
 unfoldable pub doneCount : {T : Type 0} → List (Row T) → ℕ
 doneCount rows = count (λ r. isSome (answered (r .state))) rows

@@ -29,9 +29,9 @@ fn filled_at_end(cells: &[u32]) -> usize
 }
 
 // Whether word w of cell i, of c cells, has a live key whose home lies before the start of the filled
-// cells directly before i, so that an empty cell is between. The start is told by a number c too large,
-// so that it may lie behind cell 0: a home up to i is c too large as well, and one past i, from which
-// a search comes round the end, is the number itself.
+// cells directly before i, so that an empty cell is between. Cells are counted on from c: a cell up to
+// i by c more than its number, and one past i, from which a search comes round the end to i, by its
+// number. So counted, start is the first of those filled cells.
 fn is_cut_off(w: u32, i: usize, c: usize, start: usize) -> bool
     requires { ⌜ (sizeAllowed c ≡ true) × (i < c) × (start ≤ i + c) ⌝ }
     ensures { λ r. ⌜ r ≡ (isLiveKey (keyOf w) && ltb (i + c - start) ((i + c - homeIn c (keyOf w)) % c)) ⌝ }
