@@ -24,8 +24,8 @@ use Rattle.semantics.specs.Words.{encode, decodeOperation, answerWord, narrowSe
 use Rattle.semantics.specs.Refusals.{Call}
 use Rattle.semantics.specs.Run.{over, machine, answerOf, outcomeOf, acceptedResult}
 use Rattle.semantics.proofs.Counts.{count-le, count-below}
-use Rattle.semantics.proofs.Entries.{entry-idles, entry-steps}
-use Rattle.semantics.proofs.Lists.{map-each, elem-at, elem-getD, elem-map, elem-set-same, elem-set-other, map-set, map-set-elem}
+use Rattle.semantics.proofs.Entries.{entry-idles, entry-steps, finished-here, finished-other}
+use Rattle.semantics.proofs.Lists.{map-each, elem-at, elem-getD, elem-map, map-set, map-set-elem}
 use Rattle.semantics.proofs.Narrow.{allowed-bounds, allowed-lawful}
 use Rattle.semantics.proofs.RunPacks.{AllPack, Stands}
 use Rattle.semantics.proofs.Start.{Passed}
@@ -77,14 +77,11 @@ other-turn (finishes a) f l p i log n = absurd (f refl)
 -- which rows have finished, after one is stored anew
 finished-set : (rows : List (Row Total)) (i : ℕ) {r : Row Total} (r′ : Row Total) (j : ℕ) → getElem? rows i ≡ some r
     → finishedIn (set rows i r′) j ≡ cond (eqb i j) (isSome (answered (r′ .state))) (finishedIn rows j)
-unfolding finishedIn answerIn
 finished-set rows i r′ j at = go (eqb i j) refl
   where
     go : (b : Bool) → eqb i j ≡ b → finishedIn (set rows i r′) j ≡ cond b (isSome (answered (r′ .state))) (finishedIn rows j)
-    go true e =
-        ap (λ n. isSome (answerIn (getElem? (set rows i r′) n))) (sym (eqb-true i j e))
-        ∙ ap (λ o. isSome (answerIn o)) (elem-set-same rows i r′ at)
-    go false e = ap (λ o. isSome (answerIn o)) (elem-set-other rows i j r′ (λ q. eqb-false i j e (sym q)))
+    go true e = ap (finishedIn (set rows i r′)) (sym (eqb-true i j e)) ∙ finished-here rows i r′ at
+    go false e = finished-other rows i r′ j (λ q. eqb-false i j e (sym q))
 
 -- what the loop keeps, of a machine m that k entries have come to
 pub record At (c : ℕ) (answers₀ log₀ : List ℕ) (m : Machine Total) (k : ℕ) (cells : List ℕ) (records : List Progress) (answers log : List ℕ)

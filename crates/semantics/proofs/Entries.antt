@@ -5,11 +5,12 @@ use mathlib.Core.Bool.{true, false, true≢false}
 use Prim.Native.Nat.{ℕ}
 use mathlib.Core.List.{List, [], _∷_}
 use mathlib.Core.Option.{Option, none, some}
-use lib.ListN.{getElem?}
+use lib.ListN.{set, getElem?}
 use Rattle.semantics.specs.Basics.{isSome, foldl}
 use Rattle.semantics.specs.Cells.{Setting, Operation}
 use Rattle.semantics.specs.Step.{Pending, State, pending, finished, Row, Machine, idled, taken, act, entered, entry}
 use Rattle.semantics.specs.Step.{answered, answerIn, finishedIn}
+use Rattle.semantics.proofs.Lists.{elem-set-same, elem-set-other}
 
 module _ (S : Setting) (P : Machine (S .Total) → Type 0) where
   pub by-entry : (m : Machine (S .Total)) (i : ℕ) → P (idled m)
@@ -31,6 +32,16 @@ module _ (S : Setting) (P : Machine (S .Total) → Type 0) where
   unfolding foldl
   by-run kept m h [] = h
   by-run kept m h (i ∷ schedule) = by-run kept (entry S m i) (kept m i h) schedule
+
+-- which rows have finished, after one is stored anew
+module _ {T : Type 0} (rows : List (Row T)) (i : ℕ) (r′ : Row T) where
+  pub finished-here : {r : Row T} → getElem? rows i ≡ some r → finishedIn (set rows i r′) i ≡ isSome (answered (r′ .state))
+  unfolding finishedIn answerIn
+  finished-here at = rw (elem-set-same rows i r′ at)
+
+  pub finished-other : (j : ℕ) → (j ≡ i → ⊥) → finishedIn (set rows i r′) j ≡ finishedIn rows j
+  unfolding finishedIn
+  finished-other j ne = rw (elem-set-other rows i j r′ ne)
 
 -- an entry that names a finished row is idle, and one that names an unfinished row is a step of it
 module _ (S : Setting) (m : Machine (S .Total)) (i : ℕ) where

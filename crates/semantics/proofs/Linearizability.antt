@@ -21,7 +21,7 @@ use Rattle.semantics.proofs.Laws.{Lawful, Accepted}
 use Rattle.semantics.proofs.Counts.{count-set, count-snoc}
 use Rattle.semantics.proofs.Lists.{elem-set-same, elem-set-other, elem-set-all, elem-getD, elem-map, elem-map-all, map-set-elem, foldl-snoc, map-on}
 use Rattle.semantics.proofs.Table.{Agrees, Probed, own-place, located-lookup, size-pos, start-agrees}
-use Rattle.semantics.proofs.Entries.{by-entry, by-run}
+use Rattle.semantics.proofs.Entries.{by-entry, by-run, finished-here, finished-other}
 use Rattle.semantics.proofs.Steps.{Standing, Advance, goes-on, completes, advance}
 
 module _ {T : Type 0} where
@@ -112,14 +112,6 @@ module _ (S : Setting) (L : Lawful S) (start : List (Cell (S .Total))) (ops : Li
     unfolding finishedIn answerIn
     was = rw at open-row
 
-    finished-here : (s : State (S .Total)) → finishedIn (rows′ s) i ≡ done s
-    unfolding finishedIn answerIn
-    finished-here s = rw (elem-set-same rows i (inState s) at)
-
-    finished-other : (s : State (S .Total)) (j : ℕ) → (j ≡ i → ⊥) → finishedIn (rows′ s) j ≡ finishedIn rows j
-    unfolding finishedIn
-    finished-other s j ne = rw (elem-set-other rows i j (inState s) ne)
-
     -- the log does not have it yet, so the answers of those in the log are as they were
     not-logged : occurs i log ≡ 0
     not-logged = H .once i ∙ rw was
@@ -163,10 +155,10 @@ module _ (S : Setting) (L : Lawful S) (start : List (Cell (S .Total))) (ops : Li
         }
       where
         here : finishedIn (rows′ (pending s)) i ≡ finishedIn rows i
-        here = finished-here (pending s) ∙ sym was
+        here = finished-here rows i (inState (pending s)) at ∙ sym was
 
         same : (j : ℕ) → finishedIn (rows′ (pending s)) j ≡ finishedIn rows j
-        same j = elim (ℕ-discrete j i) [ yes q ↦ rw q here | no q ↦ finished-other (pending s) j q ]
+        same j = elim (ℕ-discrete j i) [ yes q ↦ rw q here | no q ↦ finished-other rows i (inState (pending s)) j q ]
 
     -- it finishes, as the map does its operation
     replay-more : replay S start ops (log ++ (i ∷ [])) ≡ noted S (replay S start ops log) (performed S now (r .operation))
@@ -204,8 +196,8 @@ module _ (S : Setting) (L : Lawful S) (start : List (Cell (S .Total))) (ops : Li
         }
       where
         once′ : (j : ℕ) (z : Bool) → eqb j i ≡ z → cond z (suc (occurs j log)) (occurs j log) ≡ cond (finishedIn (rows′ (finished a)) j) 1 0
-        once′ j true q = rw (eqb-true j i q, not-logged, finished-here (finished a))
-        once′ j false q = H .once j ∙ ap (λ (z : Bool). cond z 1 0) (sym (finished-other (finished a) j (eqb-false j i q)))
+        once′ j true q = rw (eqb-true j i q, not-logged, finished-here rows i (inState (finished a)) at)
+        once′ j false q = H .once j ∙ ap (λ (z : Bool). cond z 1 0) (sym (finished-other rows i (inState (finished a)) j (eqb-false j i q)))
 
     -- so a step keeps all of it, whatever it comes to; and it leaves the cells as they were, unless it finishes the row
     module _ (p cell : ℕ) (q : Stepped (S .Total)) where
@@ -228,7 +220,7 @@ module _ (S : Setting) (L : Lawful S) (start : List (Cell (S .Total))) (ops : Li
       step-untouched (goes-on s same turn quiet st) e = same-cells same
       step-untouched (completes turn agrees keeps) e =
           let finishing : done (after p (q .turn)) ≡ true = ap (λ (t : Turn (S .Total)). done (after p t)) turn in
-          absurd (true≢false (sym finishing ∙ sym (finished-here (after p (q .turn))) ∙ e ∙ was))
+          absurd (true≢false (sym finishing ∙ sym (finished-here rows i (inState (after p (q .turn))) at) ∙ e ∙ was))
 
   -- an entry that is not idle is a step of an unfinished row
   open-state : (r : Row (S .Total)) (s : Pending (S .Total)) → r .state ≡ pending s → done (r .state) ≡ false
