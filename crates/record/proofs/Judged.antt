@@ -14,7 +14,7 @@ use Rattle.semantics.specs.declared.Mark.{Mark}
 use Rattle.semantics.specs.declared.Mark.the-variants.{Table, Cell, Operation, Schedule, Unknown}
 use Rattle.semantics.specs.declared.Position.{Position}
 use Rattle.semantics.specs.declared.Refusal.{Refusal}
-use Rattle.semantics.specs.Refusals.{firstMet}
+use Rattle.semantics.specs.Refusals.{firstMet, mostOperations, mostEntries}
 use Rattle.semantics.specs.Records.{faultAt}
 use Rattle.semantics.specs.RunFile.{byteAt, pairAt, markAt, partOf, mayFollow, sizeOf, isBodyWrong, isOneTooMany, past, nextOf, runFile}
 use Rattle.semantics.specs.RunFile.{conditionsOf, conditionsAt, markCut, markWrong, bodyCut, bodyWrong, oneTooMany}
@@ -59,7 +59,7 @@ module _ (file : List ℕ) (p : Position) where
   count-same Table = refl
   count-same Cell = refl
   count-same Operation = refl
-  count-same Schedule = ap (λ n. ltb 16384 (p .entries + n)) (same .byte 2 (omega arith))
+  count-same Schedule = ap (λ n. ltb mostEntries (p .entries + n)) (same .byte 2 (omega arith))
   count-same Unknown = refl
 
   on-rest : p .at + 2 ≤ length file → faultOf rest p (markAt rest 0) ≡ faultAt runFile file p
@@ -142,13 +142,13 @@ module _ {file : List ℕ} {p : Position} {m : Mark} (s : Sound file p m) where
       let (number, key) = neither (ltb n (p .lowest) || leb (p .size) n) (eqb (pairAt file (p .at + 4)) 0) (ap (isBodyWrong file p) (sym e) ∙ s .body) in
       leb-false (p .size) n (neither (ltb n (p .lowest)) (leb (p .size) n) number .1)
 
-  pub few : m ≡ Operation → p .operations < 64
+  pub few : m ≡ Operation → p .operations < mostOperations
   unfolding isOneTooMany
-  few e = leb-false 64 (p .operations) (ap (isOneTooMany file p) (sym e) ∙ s .room)
+  few e = leb-false mostOperations (p .operations) (ap (isOneTooMany file p) (sym e) ∙ s .room)
 
-  pub short : m ≡ Schedule → p .entries + byteAt file (p .at + 2) ≤ 16384
+  pub short : m ≡ Schedule → p .entries + byteAt file (p .at + 2) ≤ mostEntries
   unfolding isOneTooMany
-  short e = ltb-false 16384 (p .entries + byteAt file (p .at + 2)) (ap (isOneTooMany file p) (sym e) ∙ s .room)
+  short e = ltb-false mostEntries (p .entries + byteAt file (p .at + 2)) (ap (isOneTooMany file p) (sym e) ∙ s .room)
 
 -- the position past a record is further on, so the records of a run file can be scanned
 further : (file : List ℕ) (p : Position) (m : Mark) → (m ≡ Unknown → ⊥) → p .at < past file p m .at

@@ -8,6 +8,7 @@ use lib.Dec.{ltb}
 use lib.ListN.{length}
 use borrow.Author.Tests.{eq-eqb, ne-eqb}
 use Rattle.semantics.specs.declared.Mark.the-variants.{Schedule}
+use Rattle.semantics.specs.Refusals.{mostEntries}
 use Rattle.semantics.specs.RunFile.{byteAt, partOf, mayFollow, sizeOf, isBodyWrong, isOneTooMany}
 use Rattle.faults.specs.Faults.{atFront}
 use Rattle.faults.proofs.Order.{out-of-order, body-is-cut, body-is-wrong, count-decides}
@@ -27,7 +28,7 @@ right c = ne-eqb (byteAt (c .before .before .before .before .before .before .arg
 
 many : (c : tie.After-is-past-most) → isOneTooMany (c .before .before .before .before .before .before .before .args .rest .now) (atFront (c .before .before .before .before .before .before .before .args .position)) Schedule ≡ c .is-past-most .result
 unfolding isOneTooMany
-many c = sym (c .is-past-most .ensures ∙ ap (λ n. ltb 16384 (c .before .before .before .before .before .before .before .args .position .entries + n)) (c .before .before .before .byte-at .ensures))
+many c = sym (c .is-past-most .ensures ∙ ap (λ n. ltb mostEntries (c .before .before .before .before .before .before .before .args .position .entries + n)) (c .before .before .before .byte-at .ensures))
 
 may-follow-requires : tie.Need-may-follow-requires
 may-follow-requires c κs = search needs
