@@ -1,6 +1,6 @@
 // The reader, the run and the whole report under names of C, as the tests and the bench call them from
-// Rust. A slice is a pointer and a length, and what is returned is a struct of C's layout. Nothing is decided here: each function is
-// the one that it calls, with the equation that function promises.
+// Rust. A slice is a pointer and a length, and what is returned is a struct of C's layout. Nothing is
+// decided here: each function is the one that it calls, with the equation that function promises.
 ghost use mathlib.Core.Path.{_≡_};
 ghost use Rattle.semantics.specs.Response.{response};
 ghost use Rattle.semantics.specs.Run.{runResult};

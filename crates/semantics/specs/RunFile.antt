@@ -101,7 +101,11 @@ module _ (file : List ℕ) where
   past p Schedule = moved p Schedule (p .size) (p .lowest) (p .operations) (p .entries + byteAt file (p .at + 2))
   past p Unknown = p
 
-  -- "reader, each record", in table order: what turns a record with a whole mark away
+  -- "reader, each record", in table order. 10: "empty file, or fewer than two bytes of a mark"
+  unfoldable pub markCut : Position → Condition
+  markCut p = record { number = 10; met = ltb (length file) (p .at + 2); place = p .at }
+
+  -- then what turns a record with a whole mark away
   module _ (p : Position) (mark : Mark) where
     -- 9: "unknown mark, or mark out of order"
     unfoldable pub markWrong : Condition
@@ -121,12 +125,8 @@ module _ (file : List ℕ) where
     conditionsOf = markWrong ∷ bodyCut ∷ bodyWrong ∷ oneTooMany ∷ []
 
   module _ (p : Position) where
-    -- 10, before those: "empty file, or fewer than two bytes of a mark"
-    unfoldable pub markCut : Condition
-    markCut = record { number = 10; met = ltb (length file) (p .at + 2); place = p .at }
-
     unfoldable pub conditionsAt : List Condition
-    conditionsAt = markCut ∷ conditionsOf p (markAt file (p .at))
+    conditionsAt = markCut p ∷ conditionsOf p (markAt file (p .at))
 
     unfoldable pub nextOf : Position
     nextOf = past p (markAt file (p .at))
