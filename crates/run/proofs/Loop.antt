@@ -4,7 +4,7 @@
 use mathlib.Core.Path.{_≡_, refl, sym, ap, ap₂, subst, _∙_}
 use Prim.Native.Nat.{ℕ, suc, _+_, _%_, _≤_, _<_}
 use mathlib.Core.Bool.{Bool, true, false, cond, _||_}
-use mathlib.Core.List.{List, [], _∷_, map, map-map}
+use mathlib.Core.List.{List, [], _∷_, map, map-map, foldl}
 use mathlib.Core.Option.{none, some}
 use native.Mathlib.Nat.{add-zero, mod-eq-of-lt}
 use native.Mathlib.Omega.{arith}
@@ -13,7 +13,7 @@ use lib.Dec.{eqb}
 use lib.ListN.{length, replicate, length-replicate, getD, set, take, getElem?, length-map, length-append, List·getD-map}
 use lib.Seq.{take-suc, take-all}
 use borrow.Author.Tests.{eqb-true, eqb-false}
-use Rattle.semantics.specs.Basics.{isSome, foldl, occurs, count}
+use Rattle.semantics.specs.Basics.{isSome, occurs, countOf}
 use Rattle.semantics.specs.Totals.{Total}
 use Rattle.semantics.specs.Cells.{Setting, empty, Operation, Answer, absent}
 use Rattle.semantics.specs.Step.{Turn, passes, holds, loses, finishes, Pending, State, pending, finished, Row, Machine, idled, after}
@@ -142,7 +142,7 @@ module _ {call : Call} (ok : Passed call) where
       go (w ∷ l) = ap (_∷_ 0) (go l)
 
   none-first : (i : ℕ) → isIn 0 i ≡ finishedIn (after-entries 0 .rows) i
-  unfolding machine rules.run foldl rules.begin occurs count
+  unfolding machine rules.run rules.begin occurs countOf
   none-first i = in-none i ∙ go (finishedIn (after-entries 0 .rows) i) (hold.lin call ok [] .once i)
     where
       go : (b : Bool) → _≡_ {A = ℕ} 0 (cond b 1 0) → false ≡ b
@@ -151,7 +151,7 @@ module _ {call : Call} (ok : Passed call) where
 
   pub at-start : {answers₀ log₀ : List ℕ} (answers : List ℕ) {records : List Progress} → answers₀ ≡ over (replicate n 0) answers → records ≡ firstRecords c (call .operations)
       → At c answers₀ log₀ (after-entries 0) 0 (call .cells) records answers₀ log₀ 0 0 0
-  unfolding machine rules.run foldl rules.begin
+  unfolding machine rules.run rules.begin
   at-start {answers₀} {log₀} answers cleared begun =
       record {
         cells-are = sym (encode-decode-all (call .cells) (ok .cells));

@@ -3,6 +3,7 @@
 use mathlib.Core.Path.{_≡_, refl}
 use Prim.Native.Nat.{ℕ}
 use mathlib.Core.List.{List, map}
+use mathlib.Core.Option.{orElse}
 use lib.Dec.{T, lit≤}
 use lib.ListN.{length, replicate}
 use Rattle.semantics.specs.Basics as Basics
@@ -28,7 +29,7 @@ unfolding
     resultOf holds leftBy sameList cases inFull inFullFile inFullText goneFile goneText longer
     Totals.heldAt Totals.plusAt Totals.narrow Totals.sameTotal
     Cells.codeOf Cells.totalOf Cells.keyed Cells.lookup Cells.isEmpty Cells.usedCells
-    Basics.orElse Basics.all Basics.any Basics.count Basics.foldl Basics.isSome Basics.firstFrom Basics.firstBelow Basics.someBelow
+    orElse Basics.allOf Basics.anyOf Basics.countOf Basics.isSome Basics.firstFrom Basics.firstBelow Basics.someBelow
     Words.isPowerFrom Words.sizeAllowed Words.homeIn Words.isLiveKey Words.tombstoneWord Words.cellAllowed Words.decode Words.encode
     Words.kindOf Words.decodeOperation Words.takesAmount Words.isKind Words.operationAllowed Words.carried Words.answerWord
     Words.roomHome Words.roomSum
@@ -51,7 +52,7 @@ unfolding
     Response.runOf Response.listed Response.response
 computed = tt
 
-pub covered : T (Basics.all holds cases)
+pub covered : T (Basics.allOf holds cases)
 unfolding computed
 covered = tt
 

@@ -3,10 +3,10 @@
 use mathlib.Core.Path.{_≡_, refl, sym, ap, _∙_}
 use mathlib.Core.Bool.{true, false, true≢false}
 use Prim.Native.Nat.{ℕ}
-use mathlib.Core.List.{List, [], _∷_}
+use mathlib.Core.List.{List, [], _∷_, foldl}
 use mathlib.Core.Option.{Option, none, some}
 use lib.ListN.{set, getElem?}
-use Rattle.semantics.specs.Basics.{isSome, foldl}
+use Rattle.semantics.specs.Basics.{isSome}
 use Rattle.semantics.specs.Cells.{Setting, Operation}
 use Rattle.semantics.specs.Step.{Pending, State, pending, finished, Row, Machine, idled, taken, act, entered, entry}
 use Rattle.semantics.specs.Step.{answered, answerIn, finishedIn}
@@ -29,7 +29,6 @@ module _ (S : Setting) (P : Machine (S .Total) → Type 0) where
 
   pub by-run : ((m : Machine (S .Total)) (i : ℕ) → P m → P (entry S m i)) → (m : Machine (S .Total)) → P m → (schedule : List ℕ)
       → P (foldl (entry S) m schedule)
-  unfolding foldl
   by-run kept m h [] = h
   by-run kept m h (i ∷ schedule) = by-run kept (entry S m i) (kept m i h) schedule
 

@@ -9,7 +9,7 @@ use native.Mathlib.Decide.{decLt}
 use lib.Dec.{T, eqb, ltb, leb, leb→le}
 use lib.ListN.{length, getD, length-append}
 use borrow.Author.Tests.{ltb-false, le-leb, eqb-true}
-use Rattle.semantics.specs.Basics.{all}
+use Rattle.semantics.specs.Basics.{allOf}
 use Rattle.semantics.specs.declared.Outcome.{Outcome}
 use Rattle.semantics.specs.Words.{tombstoneWord, keyOf, totalBits, operationKey, amountBits, kindBits}
 use Rattle.semantics.specs.Text.{text, decimalIn, decimal, textsBelow, mostText}
@@ -64,18 +64,18 @@ unfolding decimal
 any-number n = record { most = digits-most 20 n }
 
 -- one of several texts
-one-of : (b : ℕ) (l : List (List ℕ)) (n : ℕ) → T (all (λ w. leb (length w) b) l) → Within b (getD l n [])
-unfolding all
+one-of : (b : ℕ) (l : List (List ℕ)) (n : ℕ) → T (allOf (λ w. leb (length w) b) l) → Within b (getD l n [])
+unfolding allOf
 one-of b [] n h = record { most = omega arith }
-one-of b (w ∷ l) zero h = record { most = leb→le (length w) b (both (leb (length w) b) (all (λ w. leb (length w) b) l) h .0) }
-one-of b (w ∷ l) (suc n) h = one-of b l n (both (leb (length w) b) (all (λ w. leb (length w) b) l) h .1)
+one-of b (w ∷ l) zero h = record { most = leb→le (length w) b (both (leb (length w) b) (allOf (λ w. leb (length w) b) l) h .0) }
+one-of b (w ∷ l) (suc n) h = one-of b l n (both (leb (length w) b) (allOf (λ w. leb (length w) b) l) h .1)
 
 kind : (n : ℕ) → Within 6 (kindWord n)
-unfolding kindWord text all
+unfolding kindWord text allOf
 kind n = one-of 6 kindWords n tt
 
 code : (n : ℕ) → Within 10 (codeWord n)
-unfolding codeWord text all
+unfolding codeWord text allOf
 code n = one-of 10 codeWords n tt
 
 total : (n : ℕ) → n < 65536 → Within 6 (totalText n)

@@ -3,7 +3,7 @@
 use mathlib.Core.Path.{_≡_, refl, ap, ap₂, sym, _∙_, subst, subst₃}
 use Prim.Native.Nat.{ℕ, suc, _+_, _<_}
 use mathlib.Core.Bool.{Bool, true, false, cond, true≢false}
-use mathlib.Core.List.{List, [], _∷_, _++_, map, map-map, map-id, map-append}
+use mathlib.Core.List.{List, [], _∷_, _++_, map, map-map, map-id, map-append, foldl-append}
 use mathlib.Core.Option.{Option, none, some}
 use native.Mathlib.Omega.{arith}
 use native.Mathlib.Decide.{ℕ-discrete}
@@ -12,14 +12,14 @@ use borrow.Author.Tests.{eqb-true, eqb-false}
 use lib.Dec.{eqb}
 use lib.ListN.{length, getD, set, getElem?, length-append}
 use lib.Seq.{set-getD}
-use Rattle.semantics.specs.Basics.{foldl, isSome, occurs, count}
+use Rattle.semantics.specs.Basics.{isSome, occurs, countOf}
 use Rattle.semantics.specs.Cells.{Setting, Cell, empty, Operation, Answer}
 use Rattle.semantics.specs.Step.{Turn, Pending, reading, holding, State, pending, finished, Row, Machine, Stepped, fresh, after, logged, idled, answered, answerIn, finishedIn, doneCount}
 use Rattle.semantics.specs.Step.{step, passed, placeOf, taken, entry, freshRow, begin, run}
 use Rattle.semantics.specs.Map.{Map, Replay, mapOf, performed, noted, replayOne, replay, Linearizable}
 use Rattle.semantics.proofs.Laws.{Lawful, Accepted}
 use Rattle.semantics.proofs.Counts.{count-set, count-snoc}
-use Rattle.semantics.proofs.Lists.{elem-set-same, elem-set-other, elem-set-all, elem-getD, elem-map, elem-map-all, map-set-elem, foldl-snoc, map-on}
+use Rattle.semantics.proofs.Lists.{elem-set-same, elem-set-other, elem-set-all, elem-getD, elem-map, elem-map-all, map-set-elem, map-on}
 use Rattle.semantics.proofs.Table.{Agrees, Probed, own-place, located-lookup, size-pos, start-agrees}
 use Rattle.semantics.proofs.Entries.{by-entry, by-run, finished-here, finished-other}
 use Rattle.semantics.proofs.Steps.{Standing, Advance, goes-on, completes, advance}
@@ -72,7 +72,7 @@ module _ (S : Setting) (L : Lawful S) (start : List (Cell (S .Total))) (ops : Li
 
   -- at the outset
   none-done : (l : List (Operation (S .Total))) → doneCount (map (freshRow S) l) ≡ 0
-  unfolding doneCount count freshRow fresh answered isSome
+  unfolding doneCount countOf freshRow fresh answered isSome
   none-done [] = refl
   none-done (o ∷ l) = none-done l
 
@@ -85,7 +85,7 @@ module _ (S : Setting) (L : Lawful S) (start : List (Cell (S .Total))) (ops : Li
   each-fresh P h = elem-map-all (freshRow S) P ops (λ i o e. h o)
 
   holds-first : Accepted S start → HoldsOf (begin S start ops)
-  unfolding HoldsOf begin replay foldl occurs count freshRow fresh finishedIn answered isSome
+  unfolding HoldsOf begin replay occurs countOf freshRow fresh finishedIn answered isSome
   holds-first ok =
       record {
         agrees = start-agrees S L start ok;
@@ -164,7 +164,7 @@ module _ (S : Setting) (L : Lawful S) (start : List (Cell (S .Total))) (ops : Li
     replay-more : replay S start ops (log ++ (i ∷ [])) ≡ noted S (replay S start ops log) (performed S now (r .operation))
     unfolding replay replayOne
     replay-more =
-        foldl-snoc (λ b j. replayOne S b (getElem? ops j)) (record { now = mapOf start; answers = [] }) log i
+        foldl-append (λ b j. replayOne S b (getElem? ops j)) (record { now = mapOf start; answers = [] }) log (i ∷ [])
         ∙ ap (λ (o : Option (Operation (S .Total))). replayOne S (replay S start ops log) o) named
       where
         named : getElem? ops i ≡ some (r .operation)

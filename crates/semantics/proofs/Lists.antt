@@ -10,7 +10,7 @@ use native.Mathlib.Omega.{arith}
 use borrow.Author.Tests.{eq-eqb}
 use lib.Dec.{T, eqb}
 use lib.ListN.{length, getD, set, getElem?}
-use Rattle.semantics.specs.Basics.{foldl, all, any, count, occurs}
+use Rattle.semantics.specs.Basics.{allOf, anyOf, countOf, occurs}
 use Rattle.semantics.proofs.Booleans.{both}
 
 pub none-some : {A : Type 0} {a : A} → none ≡ some a → ⊥
@@ -80,15 +80,9 @@ pub map-back : {A B : Type 0} (f : A → B) (g : B → A) (d : A) (xs : List A)
     → ((i : ℕ) → i < length xs → g (f (getD xs i d)) ≡ getD xs i d) → map g (map f xs) ≡ xs
 map-back f g d xs h = map-map g f xs ∙ map-each (λ a. g (f a)) (λ a. a) xs d h ∙ map-id xs
 
--- a fold over one element more is one step more
-pub foldl-snoc : {A B : Type 0} (f : B → A → B) (b : B) (l : List A) (a : A) → foldl f b (l ++ (a ∷ [])) ≡ f (foldl f b l) a
-unfolding foldl
-foldl-snoc f b [] a = refl
-foldl-snoc f b (x ∷ l) a = foldl-snoc f (f b x) l a
-
 -- what a list maps to depends on the function only at the numbers that occur in it
 pub map-on : {B : Type 0} (f g : ℕ → B) (l : List ℕ) → ((i : ℕ) → 0 < occurs i l → f i ≡ g i) → map f l ≡ map g l
-unfolding occurs count
+unfolding occurs countOf
 map-on f g [] h = refl
 map-on {B} f g (x ∷ l) h = ap₂ (λ (b : B) (r : List B). b ∷ r) (h x (rw (eq-eqb x x refl) (omega arith))) (map-on f g l (λ i p. h i (later i (eqb i x) p)))
   where
@@ -106,14 +100,14 @@ set-everywhere P d (x ∷ l) (suc j) a p h zero = h 0
 set-everywhere P d (x ∷ l) (suc j) a p h (suc i) = set-everywhere P d l j a p (λ n. h (suc n)) i
 
 -- an element passes a test that all pass, and one that passes makes some pass
-pub all-at : {A : Type 0} (test : A → Bool) (l : List A) (i : ℕ) {a : A} → T (all test l) → getElem? l i ≡ some a → T (test a)
-unfolding all
+pub all-at : {A : Type 0} (test : A → Bool) (l : List A) (i : ℕ) {a : A} → T (allOf test l) → getElem? l i ≡ some a → T (test a)
+unfolding allOf
 all-at test [] i h e = absurd (none-some e)
-all-at {A} test (x ∷ l) zero {a} h e = let q : x ≡ a = cc in subst (λ (y : A). T (test y)) q (both (test x) (all test l) h .0)
-all-at test (x ∷ l) (suc i) h e = all-at test l i (both (test x) (all test l) h .1) e
+all-at {A} test (x ∷ l) zero {a} h e = let q : x ≡ a = cc in subst (λ (y : A). T (test y)) q (both (test x) (allOf test l) h .0)
+all-at test (x ∷ l) (suc i) h e = all-at test l i (both (test x) (allOf test l) h .1) e
 
-pub any-at : {A : Type 0} (test : A → Bool) (l : List A) (i : ℕ) {a : A} → getElem? l i ≡ some a → test a ≡ true → any test l ≡ true
-unfolding any
+pub any-at : {A : Type 0} (test : A → Bool) (l : List A) (i : ℕ) {a : A} → getElem? l i ≡ some a → test a ≡ true → anyOf test l ≡ true
+unfolding anyOf
 any-at test [] i e h = absurd (none-some e)
-any-at {A} test (x ∷ l) zero {a} e h = let q : a ≡ x = cc in subst (λ (y : A). (test y || any test l) ≡ true) q (rw h)
+any-at {A} test (x ∷ l) zero {a} e h = let q : a ≡ x = cc in subst (λ (y : A). (test y || anyOf test l) ≡ true) q (rw h)
 any-at test (x ∷ l) (suc i) e h = rw (any-at test l i e h) (or-true (test x))

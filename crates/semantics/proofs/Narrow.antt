@@ -8,7 +8,7 @@ use native.Mathlib.Nat.{add-assoc, mul-div-cancel-left}
 use native.Mathlib.Omega.{arith}
 use lib.Dec.{T, eqb, leb, eqb→eq, eqb-refl}
 use lib.Pow.{pow-add, pow-pos, pow-mono, shr-lt}
-use Rattle.semantics.specs.Basics.{any}
+use Rattle.semantics.specs.Basics.{anyOf}
 use Rattle.semantics.specs.Totals.{Total, heldAt, plusAt, amounts, anySaturated, sumAt, sameTotal, narrow, narrowCeiling}
 use Rattle.semantics.specs.Words.{isPowerFrom, sizeAllowed, homeIn, narrowSetting, roomSum}
 use Rattle.semantics.proofs.Laws.{Lawful}
@@ -58,7 +58,7 @@ module _ (ceiling : ℕ) where
   sum-none t = refl
 
   pub sum-more : (t a : Total) (more : List Total) → sumAt ceiling t (a ∷ more) ≡ sumAt ceiling (plusAt ceiling t a) more
-  unfolding sumAt plusAt amounts anySaturated any
+  unfolding sumAt plusAt amounts anySaturated anyOf
   sum-more t a [] = ap₂ (heldAt ceiling) (omega arith) (rw or-false)
   sum-more t a (b ∷ more) = simp (held-again, or-assoc, add-assoc)
 

@@ -3,14 +3,14 @@
 use mathlib.Core.Path.{_≡_, refl, ap, sym, _∙_}
 use Prim.Native.Nat.{ℕ, zero, suc, _<_}
 use mathlib.Core.Bool.{Bool, true, false, cond}
-use mathlib.Core.List.{List, [], _∷_, map}
+use mathlib.Core.List.{List, [], _∷_, map, foldl, foldl-map}
 use mathlib.Core.Option.{Option, some}
 use native.Mathlib.Omega.{arith}
 use native.Mathlib.Nat.{suc-inj}
 use borrow.Author.Tests.{eqb-true, eq-eqb}
 use lib.Dec.{eqb, eqb·suc-suc, eqb·zero-suc, eqb·suc-zero}
 use lib.ListN.{length, getElem?}
-use Rattle.semantics.specs.Basics.{foldl, isSome, occurs, count}
+use Rattle.semantics.specs.Basics.{isSome, occurs, countOf}
 use Rattle.semantics.proofs.Counts.{cond-swap}
 
 -- a list without the first x in it
@@ -19,11 +19,11 @@ without x [] = []
 without x (y ∷ l) = cond (eqb x y) l (y ∷ without x l)
 
 occurs-head : (x : ℕ) (l : List ℕ) → occurs x (x ∷ l) ≡ suc (occurs x l)
-unfolding occurs count
+unfolding occurs countOf
 occurs-head x l = rw (eq-eqb x x refl)
 
 occurs-without : (x : ℕ) (l : List ℕ) → 0 < occurs x l → (i : ℕ) → occurs i l ≡ occurs i (x ∷ without x l)
-unfolding occurs count without
+unfolding occurs countOf without
 occurs-without x [] h i = absurd (omega arith)
 occurs-without x (y ∷ l) h i = go (eqb x y) refl (λ p. occurs-without x l p i)
   where
@@ -41,7 +41,7 @@ none-occurs (x ∷ l) h = let e : suc (occurs x l) ≡ 0 = sym (occurs-head x l)
 
 module _ {B : Type 0} (f : B → ℕ → B) (commute : (b : B) (i j : ℕ) → f (f b i) j ≡ f (f b j) i) where
   fold-without : (x : ℕ) (l : List ℕ) (b : B) → 0 < occurs x l → foldl f b l ≡ foldl f b (x ∷ without x l)
-  unfolding foldl occurs count without
+  unfolding occurs countOf without
   fold-without x [] b h = absurd (omega arith)
   fold-without x (y ∷ l) b h = go (eqb x y) refl (fold-without x l (f b y))
     where
@@ -53,7 +53,7 @@ module _ {B : Type 0} (f : B → ℕ → B) (commute : (b : B) (i j : ℕ) → f
           ih p ∙ ap (λ (c : B). foldl f c (without x l)) (commute b y x)
 
   pub fold-any-order : (l l′ : List ℕ) (b : B) → ((i : ℕ) → occurs i l ≡ occurs i l′) → foldl f b l ≡ foldl f b l′
-  unfolding foldl occurs count
+  unfolding occurs countOf
   fold-any-order l [] b h = rw (none-occurs l h)
   fold-any-order l (x ∷ l′) b h =
       let there : 0 < occurs x l = let e : occurs x l ≡ suc (occurs x l′) = h x ∙ occurs-head x l′ in omega arith in
@@ -69,30 +69,25 @@ indices zero = []
 indices (suc n) = 0 ∷ map suc (indices n)
 
 occurs-later : (i : ℕ) (l : List ℕ) → occurs (suc i) (map suc l) ≡ occurs i l
-unfolding occurs count
+unfolding occurs countOf
 occurs-later i [] = refl
 occurs-later i (x ∷ l) = rw (eqb·suc-suc i x, occurs-later i l)
 
 occurs-none : (l : List ℕ) → occurs 0 (map suc l) ≡ 0
-unfolding occurs count
+unfolding occurs countOf
 occurs-none [] = refl
 occurs-none (x ∷ l) = rw (eqb·zero-suc x) (occurs-none l)
 
 -- each index of a list occurs once among them
 pub occurs-indices : {A : Type 0} (l : List A) (i : ℕ) → occurs i (indices (length l)) ≡ cond (isSome (getElem? l i)) 1 0
-unfolding occurs count indices isSome
+unfolding occurs countOf indices isSome
 occurs-indices [] i = refl
 occurs-indices (a ∷ l) zero = ap suc (occurs-none (indices (length l)))
 occurs-indices (a ∷ l) (suc i) = rw (eqb·suc-zero i) (occurs-later i (indices (length l)) ∙ occurs-indices l i)
 
-fold-later : {B : Type 0} (f : B → ℕ → B) (b : B) (l : List ℕ) → foldl f b (map suc l) ≡ foldl (λ c i. f c (suc i)) b l
-unfolding foldl
-fold-later f b [] = refl
-fold-later f b (x ∷ l) = fold-later f (f b (suc x)) l
-
 -- a fold over the indices of a list is the fold over the list
 pub fold-indices : {A B : Type 0} (g : B → Option A → B) (b : B) (l : List A)
     → foldl (λ c i. g c (getElem? l i)) b (indices (length l)) ≡ foldl (λ c a. g c (some a)) b l
-unfolding foldl indices
+unfolding indices
 fold-indices g b [] = refl
-fold-indices g b (a ∷ l) = fold-later (λ c i. g c (getElem? (a ∷ l) i)) (g b (some a)) (indices (length l)) ∙ fold-indices g (g b (some a)) l
+fold-indices g b (a ∷ l) = foldl-map suc (λ c i. g c (getElem? (a ∷ l) i)) (indices (length l)) (g b (some a)) ∙ fold-indices g (g b (some a)) l

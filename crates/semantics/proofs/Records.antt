@@ -4,11 +4,10 @@
 use mathlib.Core.Path.{_≡_, refl, sym, ap, subst, _∙_}
 use Prim.Native.Nat.{ℕ, zero, suc, _+_, _-_, _≤_, _<_}
 use mathlib.Core.Bool.{Bool, true, false, and-false}
-use mathlib.Core.List.{List, [], _∷_}
+use mathlib.Core.List.{List, [], _∷_, foldl}
 use native.Mathlib.Omega.{arith}
 use lib.ListN.{length}
 use borrow.Author.Tests.{eq-eqb, ne-eqb, lt-ltb, le-ltb}
-use Rattle.semantics.specs.Basics.{foldl}
 use Rattle.semantics.specs.declared.Refusal.{Refusal}
 use Rattle.semantics.specs.Refusals.{firstMet}
 use Rattle.semantics.specs.Records.{Format, faultAt, goesOn, recordsFrom, records, recordConditions}
@@ -105,7 +104,6 @@ module _ {F : Format} {file : List ℕ} (ok : Scannable F file) {p : F .Place} w
 
     module _ {B : Type 0} {f : B → F .Place → B} {refusal : Refusal} {result : B} {h : B} (s : Folding F file f refusal result p h) where
       pub fold-goes-on : F .offset q < length file → Folding F file f refusal result q (f h p)
-      unfolding foldl
       fold-goes-on b =
           record {
             judging = judge-goes-on (s .judging) b;
@@ -113,7 +111,6 @@ module _ {F : Format} {file : List ℕ} (ok : Scannable F file) {p : F .Place} w
           }
 
       pub fold-ends : length file ≤ F .offset q → result ≡ f h p
-      unfolding foldl
       fold-ends b = scan-ends (s .folding) b
 
   -- a record that some condition turns away decides

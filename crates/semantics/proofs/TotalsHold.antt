@@ -4,14 +4,14 @@
 use mathlib.Core.Path.{_≡_, refl, ap, ap₂, sym, _∙_}
 use Prim.Native.Nat.{ℕ, zero, suc, _+_, _≤_}
 use mathlib.Core.Bool.{Bool, true, false, cond, _&&_, _||_, not, and-false}
-use mathlib.Core.List.{List, [], _∷_, map}
+use mathlib.Core.List.{List, [], _∷_, map, foldl}
 use mathlib.Core.Option.{Option, none, some}
 use native.Mathlib.Omega.{arith}
 use native.Mathlib.Decide.{ℕ-discrete}
 use borrow.Author.Tests.{eqb-true, eq-eqb, ne-eqb}
 use lib.Dec.{T as Holds, eqb}
 use lib.ListN.{length, getElem?, length-map}
-use Rattle.semantics.specs.Basics.{foldl, isSome, occurs, any}
+use Rattle.semantics.specs.Basics.{isSome, occurs, anyOf}
 use Rattle.semantics.specs.Cells.{Setting, Cell, Kind, find, insert, update, add, remove, Operation, lookup}
 use Rattle.semantics.specs.Step.{Row, Machine, answered, answerIn, finishedIn, doneCount, run}
 use Rattle.semantics.specs.Map.{Map, Done, Replay, withPair, unchanged, replaced, mapOf, stored, perform, performed, noted, replayOne, replay, Linearizable}
@@ -44,7 +44,7 @@ module _ {T : Type 0} where
   -- the rooms to make are one fewer once a missing room that is added has been made
   rooms-with : (k : ℕ) (present : ℕ → Bool) → present k ≡ false → (ops : List (Operation T))
       → roomsToMake present ops ≡ cond (isAdded k ops) (suc (roomsToMake (with-key k present) ops)) (roomsToMake (with-key k present) ops)
-  unfolding roomsToMake isAdded any countsAt addsTo with-key
+  unfolding roomsToMake isAdded anyOf countsAt addsTo with-key
   rooms-with k present h [] = refl
   rooms-with k present h (o ∷ ops) = rw (rooms-with k present h ops) (go (ℕ-discrete (o .key) k))
     where
@@ -123,7 +123,7 @@ module _ (S : Setting) (L : Lawful S) where
 
   -- taken in row order they come to the expected total
   add-all : (k : ℕ) (ops : List (Operation (S .Total))) (z : Option (S .Total)) → foldl (add-one-to k) z ops ≡ expectedFrom S z (amountsAdded k ops)
-  unfolding foldl expectedFrom amountsAdded add-one-to plussed
+  unfolding expectedFrom amountsAdded add-one-to plussed
   add-all k [] none = refl
   add-all k [] (some t) = ap some (sym (L .sum-none t))
   add-all k (o ∷ ops) z = go (addsTo k o) refl z (λ y. add-all k ops y)
@@ -200,7 +200,7 @@ module _ (S : Setting) (L : Lawful S) where
 
     replayed : Holds (onlyFindsAndAdds ops) → (l : List ℕ) (r : Replay (S .Total)) → Enough (r .now)
         → (k : ℕ) → replayFrom r l .now .pairs k ≡ addFrom k (r .now .pairs k) l
-    unfolding foldl replayOne noted performed add-to add-one-to addsTo onlyFindsAndAdds
+    unfolding replayOne noted performed add-to add-one-to addsTo onlyFindsAndAdds
     replayed only [] r en k = refl
     replayed only (i ∷ l) r en k = go (getElem? ops i) refl (λ r′ en′. replayed only l r′ en′ k)
       where

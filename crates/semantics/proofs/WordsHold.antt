@@ -3,7 +3,7 @@
 use mathlib.Core.Path.{_≡_, refl, ap, sym, subst, _∙_}
 use Prim.Native.Nat.{ℕ, zero, suc, _+_, _≤_, _<_, min, suc-le-suc}
 use mathlib.Core.Bool.{Bool, true, false, cond, true≢false}
-use mathlib.Core.List.{List, [], _∷_, _++_, map, map-map}
+use mathlib.Core.List.{List, [], _∷_, _++_, map, map-map, foldl-append}
 use mathlib.Core.Option.{Option, none, some}
 use native.Mathlib.Omega.{arith}
 use lib.Dec.{T, eqb}
@@ -20,7 +20,7 @@ use Rattle.semantics.specs.TotalsRule.{TotalsRule, EveryOperationFinishe
 use Rattle.semantics.specs.Words.{decode, encode, decodeOperation, answerWord, narrowSetting, isLiveKey, keyOf, totalBits}
 use Rattle.semantics.specs.Refusals.{Call, runRefusal, callOf}
 use Rattle.semantics.specs.Run.{Result, over, machine, answerOf, outcomeOf, acceptedResult, refusedResult, resultIf, runResult, amountIn, roomTotal, replayWords, LinearizableWords, heldSum, TotalsWords}
-use Rattle.semantics.proofs.Lists.{foldl-snoc, map-on}
+use Rattle.semantics.proofs.Lists.{map-on}
 use Rattle.semantics.proofs.Over.{over-get}
 use Rattle.semantics.proofs.Booleans.{passed as affirm}
 use Rattle.semantics.proofs.Table.{keyed-live, Looked, nowhere, somewhere, looked}
@@ -143,7 +143,7 @@ module _ (call : Call) (ok : Passed call) where
   -- one entry more, after any others
   pub one-entry : (entries : List ℕ) (i : ℕ) → after (entries ++ (i ∷ [])) ≡ entry S (after entries) i
   unfolding machine run
-  one-entry entries i = foldl-snoc (entry S) (begin S start ops) entries i
+  one-entry entries i = foldl-append (entry S) (begin S start ops) entries (i ∷ [])
 
   finishes-none : (entries : List ℕ) (i : ℕ) → after (entries ++ (i ∷ [])) .log ≡ after entries .log
       → finishedIn (entry S (after entries) i .rows) i ≡ finishedIn (after entries .rows) i

@@ -3,9 +3,9 @@
 use Prim.Native.Nat.{ℕ}
 use mathlib.Core.Bool.{Bool, true, false, cond, not}
 use mathlib.Core.List.{List, [], _∷_}
-use mathlib.Core.Option.{Option, none, some}
+use mathlib.Core.Option.{Option, none, some, orElse}
 use lib.Dec.{eqb}
-use Rattle.semantics.specs.Basics.{orElse, count}
+use Rattle.semantics.specs.Basics.{countOf}
 
 -- Everything that the rules leave open: the type of totals, how two are added and compared, how one is summed with others as whole numbers
 -- and then held, the number of cells c, and the home of a key.
@@ -73,4 +73,4 @@ isEmpty tombstone = false
 isEmpty (live k t) = false
 
 unfoldable pub usedCells : {T : Type 0} → List (Cell T) → ℕ
-usedCells cells = count (λ x. not (isEmpty x)) cells
+usedCells cells = countOf (λ x. not (isEmpty x)) cells

@@ -4,11 +4,11 @@
 use mathlib.Core.Path.{_≡_}
 use Prim.Native.Nat.{ℕ, suc}
 use mathlib.Core.Bool.{cond}
-use mathlib.Core.List.{List, [], _∷_, _++_, map}
+use mathlib.Core.List.{List, [], _∷_, _++_, map, foldl}
 use mathlib.Core.Option.{Option, none, some}
 use lib.Dec.{eqb}
 use lib.ListN.{length, getD, getElem?}
-use Rattle.semantics.specs.Basics.{foldl, occurs}
+use Rattle.semantics.specs.Basics.{occurs}
 use Rattle.semantics.specs.Cells.{Setting, Cell, empty, Kind, find, insert, update, add, remove, Operation, lookup, usedCells, keyed}
 use Rattle.semantics.specs.Cells.{Answer, found, present, changed, removed, inserted, absent, full}
 use Rattle.semantics.specs.Step.{Row, Machine, entry, answerIn, finishedIn, doneCount}

@@ -3,11 +3,11 @@
 -- Assumes nothing.
 use Prim.Native.Nat.{ℕ, suc, _+_, _%_}
 use mathlib.Core.Bool.{Bool, true, false, cond, _&&_}
-use mathlib.Core.List.{List, [], _∷_, _++_, map}
+use mathlib.Core.List.{List, [], _∷_, _++_, map, foldl}
 use mathlib.Core.Option.{Option, none, some}
 use lib.Dec.{eqb}
 use lib.ListN.{getD, set, getElem?}
-use Rattle.semantics.specs.Basics.{isSome, foldl, count}
+use Rattle.semantics.specs.Basics.{isSome, countOf}
 use Rattle.semantics.specs.Cells.{Setting, Cell, empty, tombstone, live, Kind, find, insert, update, add, remove, Operation}
 use Rattle.semantics.specs.Cells.{Answer, found, present, changed, removed, inserted, absent, full}
 
@@ -238,4 +238,4 @@ finishedIn rows i = isSome (answerIn (getElem? rows i))
 
 -- "Finished rows are a set of 64 places, and the done count is its size": how many there are. Sets.antt has such sets.
 unfoldable pub doneCount : {T : Type 0} → List (Row T) → ℕ
-doneCount rows = count (λ r. isSome (answered (r .state))) rows
+doneCount rows = countOf (λ r. isSome (answered (r .state))) rows

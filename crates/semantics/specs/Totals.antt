@@ -4,7 +4,7 @@ use Prim.Native.Nat.{ℕ, _+_, min}
 use mathlib.Core.Bool.{Bool, _||_, _&&_, Bool·beq}
 use mathlib.Core.List.{List, [], _∷_}
 use lib.Dec.{leb, eqb}
-use Rattle.semantics.specs.Basics.{any}
+use Rattle.semantics.specs.Basics.{anyOf}
 
 -- "Totals 0 to 65,534 are true. Total 65,535 is pinned: at least that much." A total is an amount and whether it is saturated (document 01: pinned).
 pub record Total : Type 0 where
@@ -25,7 +25,7 @@ amounts [] = 0
 amounts (t ∷ ts) = t .amount + amounts ts
 
 unfoldable pub anySaturated : List Total → Bool
-anySaturated ts = any (λ t. t .saturated) ts
+anySaturated ts = anyOf (λ t. t .saturated) ts
 
 -- "they and the starting total are summed as whole numbers before the sum is held": a total with others added; with none it stays as it is
 unfoldable pub sumAt : ℕ → Total → List Total → Total

@@ -7,7 +7,7 @@ use mathlib.Core.List.{List, [], _∷_}
 use mathlib.Core.Option.{Option, none, some}
 use lib.Dec.{T, eqb}
 use lib.ListN.{length}
-use Rattle.semantics.specs.Basics.{isSome, all, any}
+use Rattle.semantics.specs.Basics.{isSome, allOf, anyOf}
 use Rattle.semantics.specs.Cells.{Setting, Cell, Kind, find, insert, update, add, remove, Operation, lookup, usedCells}
 use Rattle.semantics.specs.Step.{run, doneCount}
 
@@ -27,7 +27,7 @@ isFindOrAdd add = true
 isFindOrAdd remove = false
 
 unfoldable pub onlyFindsAndAdds : {T : Type 0} → List (Operation T) → Bool
-onlyFindsAndAdds ops = all (λ o. isFindOrAdd (o .kind)) ops
+onlyFindsAndAdds ops = allOf (λ o. isFindOrAdd (o .kind)) ops
 
 -- "A room .. is present in the starting or final cells if one of them has its key"
 unfoldable pub isPresent : {T : Type 0} → List (Cell T) → ℕ → Bool
@@ -39,7 +39,7 @@ addsTo k o = isAdd (o .kind) && eqb k (o .key)
 
 -- "A room is added if a row of kind add names it, with amount 0 too."
 unfoldable pub isAdded : {T : Type 0} → ℕ → List (Operation T) → Bool
-isAdded k ops = any (addsTo k) ops
+isAdded k ops = anyOf (addsTo k) ops
 
 -- "The amounts added to it are those of such rows, each row once however many entries name it"
 unfoldable pub amountsAdded : {T : Type 0} → ℕ → List (Operation T) → List T

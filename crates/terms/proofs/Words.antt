@@ -10,7 +10,7 @@ use lib.Dec.{T, eqb, ltb}
 use lib.ListN.{length, getD, drop, replicate, drop-of-length-le, length-append, length-replicate}
 use lib.Seq.{drop-cons, drop-append-add}
 use borrow.Author.Tests.{eq-eqb, ne-eqb, ltb-true, not-true}
-use Rattle.semantics.specs.Basics.{all}
+use Rattle.semantics.specs.Basics.{allOf}
 use Rattle.semantics.specs.Text.{text, decimal}
 use Rattle.semantics.specs.Listing.{kindWords, kindWord, codeWords, codeWord, totalText}
 use Rattle.semantics.proofs.Booleans.{both, passed}
@@ -19,7 +19,7 @@ use Rattle.terms.specs.Letters.{untilBlank}
 
 no-letters : (words : List ℕ) (i : ℕ) → length words ≤ i → untilBlank (drop i words) ≡ []
 unfolding untilBlank
-no-letters words i all = ap untilBlank (drop-of-length-le words all)
+no-letters words i allOf = ap untilBlank (drop-of-length-le words allOf)
 
 -- What is left of a word from a place on: a letter and what follows it, or nothing.
 module _ (words : List ℕ) (i : ℕ) (w : Writing) {v : Writing} (rest : v ≡ written w (untilBlank (drop i words))) where
@@ -36,7 +36,7 @@ module _ (words : List ℕ) (i : ℕ) (w : Writing) {v : Writing} (rest : v ≡ 
 
   pub at-end : length words ≤ i → v ≡ w
   unfolding written
-  at-end all = rest ∙ ap (written w) (no-letters words i all)
+  at-end allOf = rest ∙ ap (written w) (no-letters words i allOf)
 
 -- A row of words, each with blanks up to eleven places. A word has at most ten letters and no blank among them.
 abbrev padded : List ℕ → List ℕ
@@ -50,26 +50,26 @@ abbrev isLetter : ℕ → Bool
 isLetter b = not (eqb b 32)
 
 abbrev isWord : List ℕ → Bool
-isWord word = ltb (length word) 11 && all isLetter word
+isWord word = ltb (length word) 11 && allOf isLetter word
 
-letters : (word more : List ℕ) → T (all isLetter word) → untilBlank (word ++ (32 ∷ more)) ≡ word
-unfolding untilBlank all
+letters : (word more : List ℕ) → T (allOf isLetter word) → untilBlank (word ++ (32 ∷ more)) ≡ word
+unfolding untilBlank allOf
 letters [] more h = refl
 letters (b ∷ word) more h =
-    let (first, rest) = both (isLetter b) (all isLetter word) h in
+    let (first, rest) = both (isLetter b) (allOf isLetter word) h in
     rw (not-true (eqb b 32) (passed (isLetter b) first)) (ap (_∷_ b) (letters word more rest))
 
 -- the word at each place of a row; past the last there is none
-word-at : (words : List (List ℕ)) → T (all isWord words) → (n : ℕ) → untilBlank (drop (n * 11) (row words)) ≡ getD words n []
-unfolding all row
+word-at : (words : List (List ℕ)) → T (allOf isWord words) → (n : ℕ) → untilBlank (drop (n * 11) (row words)) ≡ getD words n []
+unfolding allOf row
 word-at [] h n = no-letters [] (n * 11) (omega arith)
 word-at (word ∷ more) h n =
-    let (is, rest) = both (isWord word) (all isWord more) h in
-    let (fits, alone) = both (ltb (length word) 11) (all isLetter word) is in
+    let (is, rest) = both (isWord word) (allOf isWord more) h in
+    let (fits, alone) = both (ltb (length word) 11) (allOf isLetter word) is in
     let short = ltb-true (length word) 11 (passed (ltb (length word) 11) fits) in
     go n short alone (word-at more rest)
   where
-    go : (n : ℕ) → length word < 11 → T (all isLetter word) → ((m : ℕ) → untilBlank (drop (m * 11) (row more)) ≡ getD more m [])
+    go : (n : ℕ) → length word < 11 → T (allOf isLetter word) → ((m : ℕ) → untilBlank (drop (m * 11) (row more)) ≡ getD more m [])
         → untilBlank (drop (n * 11) (padded word ++ row more)) ≡ getD (word ∷ more) n []
     go zero short alone others =
         let room : 11 - length word ≡ suc (10 - length word) = omega arith in
@@ -80,11 +80,11 @@ word-at (word ∷ more) h n =
         rw (past, drop-append-add) (others m)
 
 pub kind-letters : (n : ℕ) → untilBlank (drop (n * 11) (text "           find       insert     update     add        remove     ")) ≡ kindWord n
-unfolding text kindWord row all
+unfolding text kindWord row allOf
 kind-letters n = word-at kindWords tt n
 
 pub code-letters : (n : ℕ) → untilBlank (drop (n * 11) (text "unfinished found      inserted   present    changed    removed    absent     full       ")) ≡ codeWord n
-unfolding text codeWord row all
+unfolding text codeWord row allOf
 code-letters n = word-at codeWords tt n
 
 -- a total is pinned or true
