@@ -4,9 +4,10 @@
 ghost use mathlib.Core.Path.{_≡_};
 ghost use Prim.Native.Nat.{_<_};
 ghost use lib.Count.{ones};
-ghost use lib.ListN.{length, set, take};
+ghost use lib.ListN.{length, set};
 ghost use Rattle.semantics.specs.Sets.{including};
-ghost use Rattle.semantics.specs.Run.{machine, refusalOf, acceptedResult, runResult, LinearizableWords, TotalsWords};
+ghost use Rattle.semantics.specs.Run.{machine, refusalOf, acceptedResult};
+ghost use Rattle.semantics.specs.Demands.{Demands};
 use advance::take_step;
 use begin::begin;
 use clear::clear;
@@ -87,9 +88,8 @@ fn entries(
 //
 // The call is judged first, and one that is turned away alters nothing. Otherwise the cells, an
 // answer for each operation and a log byte for each that finished are written, and what the slices
-// hold past those stays. Whatever the schedule, the finished operations did what a one-at-a-time map
-// does in log order; and with only finds and adds, all finished and cells enough, each room has its
-// starting total and all amounts added to it.
+// hold past those stays. All that is promised of a call and its result is one page,
+// semantics/specs/Demands.antt: whatever the schedule, and after any number of its entries.
 pub fn run(
     cells: &mut [u32],
     operations: &[u64],
@@ -97,10 +97,8 @@ pub fn run(
     answers: &mut [u32],
     log: &mut [u8],
 ) -> Outcome
-    ensures result { λ r. ⌜ runResult (now (cells .entry)) (now (operations .entry)) (now (schedule .entry)) (now (answers .entry)) (now (log .entry))
-        ≡ record { outcome = r; cells = now (cells .exit); answers = now (answers .exit); log = now (log .exit) } ⌝ }
-    ensures linearizable { λ r. ⌜ (r .number ≡ 0 → LinearizableWords (now (cells .entry)) (now (operations .entry)) (now (schedule .entry)) (now (cells .exit)) (now (answers .exit)) (take (r .done) (now (log .exit)))) ⌝ }
-    ensures totals { λ r. ⌜ (r .number ≡ 0 → TotalsWords (now (cells .entry)) (now (operations .entry)) (now (cells .exit)) (r .done)) ⌝ }
+    ensures { λ r. ⌜ Demands (now (cells .entry)) (now (operations .entry)) (now (schedule .entry)) (now (answers .entry)) (now (log .entry))
+        (record { outcome = r; cells = now (cells .exit); answers = now (answers .exit); log = now (log .exit) }) ⌝ }
 {
     let refusal = validate(cells, operations, schedule, answers.len(), log.len());
     if refusal.number == 0 {

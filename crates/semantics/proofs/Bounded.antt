@@ -1,6 +1,6 @@
 -- A response is at most 98,304 bytes, whatever the file: so a program that writes one needs no larger buffer.
 -- Assumes nothing.
-use mathlib.Core.Path.{_≡_, sym, subst}
+use mathlib.Core.Path.{_≡_, sym, subst, _∙_}
 use Prim.Native.Nat.{ℕ, _^_, _≤_, _<_}
 use mathlib.Core.Bool.{Bool, true, false, cond}
 use mathlib.Core.List.{List}
@@ -22,8 +22,8 @@ use Rattle.semantics.specs.Response.{runOf, listed, response}
 use Rattle.semantics.proofs.Counts.{count-le}
 use Rattle.semantics.proofs.Narrow.{allowed-bounds}
 use Rattle.semantics.proofs.Words.{by-sort, live-bounds, encode-allowed}
-use Rattle.semantics.proofs.Start.{Passed}
-use Rattle.semantics.proofs.WordsHold.{accepted, packs, same-length}
+use Rattle.semantics.proofs.Start.{Passed, accepted-call}
+use Rattle.semantics.proofs.WordsHold.{accepted, number-is, packs, same-length}
 use Rattle.semantics.proofs.Lengths.{Within, looser, refusal, Small, listing-within}
 
 -- every word of an accepted run's cells is one that the checks accept
@@ -61,8 +61,8 @@ module _ (h : Contents) where
     where
       bounds : runOf h .outcome .number ≡ 0 → Bounds (runOf h)
       bounds e =
-          let (ok, q) = accepted (h .cells) (h .operations) (h .schedule) slice slice e in
-          subst Bounds (sym q) (small ok)
+          let f = sym (number-is (h .cells) (h .operations) (h .schedule) slice slice) ∙ e in
+          subst Bounds (sym (accepted (h .cells) (h .operations) (h .schedule) slice slice f)) (small (accepted-call called f))
 
 pub bounded : (file : List ℕ) → length (response file) ≤ mostText
 unfolding response

@@ -2,7 +2,7 @@
 -- Assumes nothing.
 use mathlib.Core.Path.{_≡_, refl}
 use Prim.Native.Nat.{ℕ}
-use mathlib.Core.List.{List, map}
+use mathlib.Core.List.{List}
 use mathlib.Core.Option.{orElse}
 use lib.Dec.{T, lit≤}
 use lib.ListN.{length, replicate}
@@ -14,13 +14,14 @@ use Rattle.semantics.specs.Step as Step
 use Rattle.semantics.specs.TotalsRule as TotalsRule
 use Rattle.semantics.specs.Refusals as Refusals
 use Rattle.semantics.specs.Run as Run
+use Rattle.semantics.specs.Demands as Demands
 use Rattle.semantics.specs.Text as Text
 use Rattle.semantics.specs.Records as Records
 use Rattle.semantics.specs.RunFile as RunFile
 use Rattle.semantics.specs.RunFile.{Contents}
 use Rattle.semantics.specs.Listing as Listing
 use Rattle.semantics.specs.Response as Response
-use Rattle.semantics.proofs.WordsHold.{totals-words}
+use Rattle.semantics.proofs.WordsHold.{demands}
 use Rattle.semantics.specs.Cases.{resultOf, holds, leftBy, sameList, cases, inFull, inFullFile, inFullText, goneFile, goneText, longer, Meets}
 
 -- every definition that a run computes with: to unfold `computed` is to unfold them all
@@ -64,8 +65,9 @@ met = (
 )
 
 pub speaks : (j : Contents) → Meets j → (k : ℕ)
-    → Run.roomTotal k (resultOf j .cells) ≡ Run.heldSum (Run.roomTotal k (j .cells)) (TotalsRule.amountsAdded k (map Words.decodeOperation (j .operations)))
-unfolding resultOf Run.TotalsWords
+    → Cells.lookup k (Demands.cellsOf (resultOf j .cells))
+    ≡ TotalsRule.expected (Demands.settingOf (j .cells)) (Demands.cellsOf (j .cells)) (Demands.operationsOf (j .operations)) k
+unfolding resultOf Demands.TotalsKept
 speaks j h =
     let slice : List ℕ = replicate (length (j .operations)) 9 in
-    totals-words (j .cells) (j .operations) (j .schedule) slice slice (h .accepted) (h .only) (h .finished) (h .suffice)
+    demands (j .cells) (j .operations) (j .schedule) slice slice .accepted (h .accepted) .totals (h .only) (h .finished) (h .suffice)

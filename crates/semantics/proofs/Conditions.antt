@@ -11,7 +11,7 @@ use Rattle.semantics.specs.Basics.{firstBelow, someBelow}
 use Rattle.semantics.specs.declared.Refusal.{Refusal}
 use Rattle.semantics.specs.Refusals.{Condition, firstMet, atFirst}
 
--- with positive numbers, number 0 says that no condition is met
+-- with positive numbers, number 0 says that no condition is met; and where none is, the number is 0
 abbrev pub Positive : List Condition → Type 0
 Positive [] = Unit
 Positive (c ∷ more) = (0 < c .number) × Positive more
@@ -29,6 +29,11 @@ none-met (c ∷ more) p e = go (c .met) refl e (none-met more (p .1))
         → (firstMet more .number ≡ 0 → NoneMet more) → NoneMet (c ∷ more)
     go true m f r = absurd (omega (arith, p .0))
     go false m f r = (m, r f)
+
+pub none-accepts : (cs : List Condition) → NoneMet cs → firstMet cs .number ≡ 0
+unfolding firstMet
+none-accepts [] h = refl
+none-accepts (c ∷ more) h = rw (h .0) (none-accepts more (h .1))
 
 -- a table in two parts: the first condition met is in the first part, or else in the second
 pub met-early : (cs ds : List Condition) → (firstMet cs .number ≡ 0 → ⊥) → firstMet (cs ++ ds) ≡ firstMet cs

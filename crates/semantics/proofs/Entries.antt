@@ -1,16 +1,20 @@
 -- How a fact of a machine is kept: an entry is idle or a step of an unfinished row, and a run is its entries.
 -- Assumes nothing.
 use mathlib.Core.Path.{_≡_, refl, sym, ap, _∙_}
-use mathlib.Core.Bool.{true, false, true≢false}
-use Prim.Native.Nat.{ℕ}
+use mathlib.Core.Bool.{Bool, true, false, cond, true≢false}
+use Prim.Native.Nat.{ℕ, suc, _≤_}
+use native.Mathlib.Nat.{le-trans}
+use native.Mathlib.Omega.{arith}
+use lib.Dec.{eqb}
 use mathlib.Core.List.{List, [], _∷_, foldl}
 use mathlib.Core.Option.{Option, none, some}
 use lib.ListN.{set, getElem?}
-use Rattle.semantics.specs.Basics.{isSome}
+use Rattle.semantics.specs.Basics.{isSome, occurs, countOf}
 use Rattle.semantics.specs.Cells.{Setting, Operation}
-use Rattle.semantics.specs.Step.{Pending, State, pending, finished, Row, Machine, idled, taken, act, entered, entry}
+use Rattle.semantics.specs.Step.{Turn, passes, holds, loses, finishes, logged, Pending, State, pending, finished, Row, Machine, idled, taken, act, entered, entry}
 use Rattle.semantics.specs.Step.{answered, answerIn, finishedIn}
 use Rattle.semantics.proofs.Lists.{elem-set-same, elem-set-other}
+use Rattle.semantics.proofs.Counts.{count-snoc}
 
 module _ (S : Setting) (P : Machine (S .Total) → Type 0) where
   pub by-entry : (m : Machine (S .Total)) (i : ℕ) → P (idled m)
@@ -31,6 +35,29 @@ module _ (S : Setting) (P : Machine (S .Total) → Type 0) where
       → P (foldl (entry S) m schedule)
   by-run kept m h [] = h
   by-run kept m h (i ∷ schedule) = by-run kept (entry S m i) (kept m i h) schedule
+
+-- the log only grows: what it names, it goes on naming
+module _ (S : Setting) (j : ℕ) where
+  logged-more : (t : Turn (S .Total)) (i : ℕ) (l : List ℕ) → occurs j l ≤ occurs j (logged t i l)
+  unfolding logged occurs
+  logged-more passes i l = omega arith
+  logged-more (holds h) i l = omega arith
+  logged-more loses i l = omega arith
+  logged-more (finishes a) i l = rw (count-snoc (eqb j) l i) (go (eqb j i))
+    where
+      go : (z : Bool) → countOf (eqb j) l ≤ cond z (suc (countOf (eqb j) l)) (countOf (eqb j) l)
+      go true = omega arith
+      go false = omega arith
+
+  pub log-grows : (m : Machine (S .Total)) (schedule : List ℕ) → occurs j (m .log) ≤ occurs j (foldl (entry S) m schedule .log)
+  unfolding idled taken
+  log-grows m schedule = by-run S Grown entry-grows m (omega arith) schedule
+    where
+      Grown : Machine (S .Total) → Type 0
+      Grown n = occurs j (m .log) ≤ occurs j (n .log)
+
+      entry-grows : (n : Machine (S .Total)) (i : ℕ) → Grown n → Grown (entry S n i)
+      entry-grows n i h = by-entry S Grown n i h (λ r s at e. le-trans h (logged-more _ i (n .log)))
 
 -- which rows have finished, after one is stored anew
 module _ {T : Type 0} (rows : List (Row T)) (i : ℕ) (r′ : Row T) where

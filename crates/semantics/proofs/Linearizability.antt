@@ -3,7 +3,7 @@
 use mathlib.Core.Path.{_≡_, refl, ap, ap₂, sym, _∙_, subst, subst₃}
 use Prim.Native.Nat.{ℕ, suc, _+_, _<_}
 use mathlib.Core.Bool.{Bool, true, false, cond, true≢false}
-use mathlib.Core.List.{List, [], _∷_, _++_, map, map-map, map-id, map-append, foldl-append}
+use mathlib.Core.List.{List, [], _∷_, _++_, map, map-map, map-id, map-append, foldl, foldl-append}
 use mathlib.Core.Option.{Option, none, some}
 use native.Mathlib.Omega.{arith}
 use native.Mathlib.Decide.{ℕ-discrete}
@@ -13,16 +13,35 @@ use lib.Dec.{eqb}
 use lib.ListN.{length, getD, set, getElem?, length-append}
 use lib.Seq.{set-getD}
 use Rattle.semantics.specs.Basics.{isSome, occurs, countOf}
-use Rattle.semantics.specs.Cells.{Setting, Cell, empty, Operation, Answer}
+use Rattle.semantics.specs.Cells.{Setting, Cell, empty, Operation, Answer, lookup, usedCells, keyed}
 use Rattle.semantics.specs.Step.{Turn, Pending, reading, holding, State, pending, finished, Row, Machine, Stepped, fresh, after, logged, idled, answered, answerIn, finishedIn, doneCount}
 use Rattle.semantics.specs.Step.{step, passed, placeOf, taken, entry, freshRow, begin, run}
-use Rattle.semantics.specs.Map.{Map, Replay, mapOf, performed, noted, replayOne, replay, Linearizable}
+use Rattle.semantics.specs.Map.{Map, Replay, mapOf, performed, noted, replayOne, replay}
 use Rattle.semantics.proofs.Laws.{Lawful, Accepted}
 use Rattle.semantics.proofs.Counts.{count-set, count-snoc}
 use Rattle.semantics.proofs.Lists.{elem-set-same, elem-set-other, elem-set-all, elem-getD, elem-map, elem-map-all, map-set-elem, map-on}
 use Rattle.semantics.proofs.Table.{Agrees, Probed, own-place, located-lookup, size-pos, start-agrees}
-use Rattle.semantics.proofs.Entries.{by-entry, by-run, finished-here, finished-other}
+use Rattle.semantics.proofs.Entries.{by-entry, by-run, log-grows, finished-here, finished-other}
 use Rattle.semantics.proofs.Steps.{Standing, Advance, goes-on, completes, advance}
+
+-- Demand 2, of a machine m that a run from the starting cells has come to, over any totals
+module _ (S : Setting) where
+  pub record Linearized (start : List (Cell (S .Total))) (ops : List (Operation (S .Total))) (m : Machine (S .Total)) : Type 0 where
+    -- the operations are those given
+    pub operations : map (λ (r : Row (S .Total)). r .operation) (m .rows) ≡ ops
+    -- every finished answer is the map's, the operations taken in log order
+    pub answers : map (λ i. answerIn (getElem? (m .rows) i)) (m .log) ≡ map some (replay S start ops (m .log) .answers)
+    -- the live pairs are the map's
+    pub pairs : (k : ℕ) → lookup k (m .cells) ≡ replay S start ops (m .log) .now .pairs k
+    -- its used count is the number of cells not empty
+    pub used : usedCells (m .cells) ≡ replay S start ops (m .log) .now .used
+    -- no key has two live cells
+    pub distinct : (k i j : ℕ) (t u : S .Total) → keyed k (getD (m .cells) i empty) ≡ some t → keyed k (getD (m .cells) j empty) ≡ some u → i ≡ j
+    -- every finished operation is in the log exactly once, and no other is
+    pub once : (i : ℕ) → occurs i (m .log) ≡ cond (finishedIn (m .rows) i) 1 0
+    pub counted : doneCount (m .rows) ≡ length (m .log)
+    -- an entry that does not finish its operation leaves the cells as they were
+    pub untouched : (i : ℕ) → finishedIn (entry S m i .rows) i ≡ finishedIn (m .rows) i → entry S m i .cells ≡ m .cells
 
 module _ {T : Type 0} where
   abbrev done : State T → Bool
@@ -261,7 +280,7 @@ module _ (S : Setting) (L : Lawful S) (start : List (Cell (S .Total))) (ops : Li
       by-entry S (λ (n : Machine (S .Total)). finishedIn (n .rows) i ≡ finishedIn (m .rows) i → n .cells ≡ m .cells) m i (λ e. refl)
       (taken-untouched m H i)
 
-  pub linearizable : Accepted S start → (schedule : List ℕ) → Linearizable S start ops (run S start ops schedule)
+  pub linearizable : Accepted S start → (schedule : List ℕ) → Linearized S start ops (run S start ops schedule)
   unfolding HoldsOf run
   linearizable ok schedule =
       record {
@@ -277,3 +296,25 @@ module _ (S : Setting) (L : Lawful S) (start : List (Cell (S .Total))) (ops : Li
     where
       H : HoldsOf (run S start ops schedule)
       H = by-run S HoldsOf holds-entry (begin S start ops) (holds-first ok) schedule
+
+  -- an operation that is unfinished at the end: no entry that names it has changed a cell, wherever in the schedule it stands
+  module _ (ok : Accepted S start) (entries : List ℕ) (i : ℕ) (later : List ℕ) where
+    abbrev before : Machine (S .Total)
+    before = run S start ops entries
+
+    unnamed : (m : Machine (S .Total)) → HoldsOf m → occurs i (m .log) ≡ 0 → finishedIn (m .rows) i ≡ false
+    unfolding HoldsOf
+    unnamed m H e = go (finishedIn (m .rows) i) (sym (H .once i) ∙ e)
+      where
+        go : (z : Bool) → _≡_ {A = ℕ} (cond z 1 0) 0 → z ≡ false
+        go true q = absurd (omega arith)
+        go false q = refl
+
+    pub unfinished-untouched : occurs i (foldl (entry S) (entry S before i) later .log) ≡ 0 → entry S before i .cells ≡ before .cells
+    unfolding run
+    unfinished-untouched e =
+        let H = by-run S HoldsOf holds-entry (begin S start ops) (holds-first ok) entries in
+        let last = log-grows S i (entry S before i) later in
+        let this = log-grows S i before (i ∷ []) in
+        entry-untouched before H i
+        (unnamed (entry S before i) (holds-entry before i H) (omega arith) ∙ sym (unnamed before H (omega arith)))

@@ -9,15 +9,16 @@ use mathlib.Core.Option.{some}
 use native.Mathlib.Nat.{mod-lt}
 use native.Mathlib.Decide.{decLt}
 use native.Mathlib.Omega.{arith}
-use lib.Dec.{T, eqb, ltb}
-use lib.ListN.{length, getD, getElem?, length-map, List·getD-map, List·getD-eq-default}
-use borrow.Author.Tests.{ltb-false, leb-false, eqb-false}
+use lib.Dec.{T, eqb, leb, ltb}
+use lib.ListN.{length, getD, getElem?, take, length-take, length-map, List·getD-map, List·getD-eq-default}
+use lib.Seq.{getD-take}
+use borrow.Author.Tests.{ltb-false, leb-false, eqb-false, le-ltb}
 use Rattle.semantics.specs.Basics.{someBelow}
 use Rattle.semantics.specs.Totals.{Total}
 use Rattle.semantics.specs.Cells.{Cell, Operation, empty, keyed, isEmpty}
 use Rattle.semantics.specs.Step.{placeOf}
 use Rattle.semantics.specs.Words.{sizeAllowed, homeIn, isLiveKey, keyOf, cellAllowed, operationAllowed, decode, decodeOperation, narrowSetting}
-use Rattle.semantics.specs.Refusals.{atFirst, Call, mostOperations, mostEntries, isRepeated, isUnreachable}
+use Rattle.semantics.specs.Refusals.{atFirst, Call, callOf, mostOperations, mostEntries, isRepeated, isUnreachable}
 use Rattle.semantics.specs.Refusals.{sizeNotAllowed, tooMany, tooShort, badCell, badOperation, badEntry, repeatedKey, unreachableKey, runConditions, runRefusal}
 use Rattle.semantics.proofs.Laws.{Accepted}
 use Rattle.semantics.proofs.Lists.{elem-getD, elem-map-all}
@@ -25,8 +26,8 @@ use Rattle.semantics.proofs.Table.{distance-back}
 use Rattle.semantics.proofs.Booleans.{affirmed, neither, other-fails}
 use Rattle.semantics.proofs.Narrow.{allowed-lawful}
 use Rattle.semantics.proofs.Words.{live-bounds, Packed, Packs, decode-packs, decode-operation-packed, decode-empty, decode-keyed}
-use Rattle.semantics.proofs.Searches.{none-below}
-use Rattle.semantics.proofs.Conditions.{none-met}
+use Rattle.semantics.proofs.Searches.{none-below, none-some-below}
+use Rattle.semantics.proofs.Conditions.{none-met, none-accepts}
 
 -- what the run's checks say of a call that none of them turns away
 pub record Passed (call : Call) : Type 0 where
@@ -147,3 +148,21 @@ module _ (call : Call) (p : Passed call) where
 
 pub accepted-start : (call : Call) → runRefusal call .number ≡ 0 → Accepted (narrowSetting (length (call .cells))) (map decode (call .cells))
 accepted-start call e = start-accepted call (accepted-call call e)
+
+-- what begins the schedule of an accepted call makes an accepted call: of all conditions only 2 and 6 look at the schedule, and with fewer
+-- entries neither is met
+pub beginning-accepted : (cells operations schedule : List ℕ) (answers log k : ℕ) → runRefusal (callOf cells operations schedule answers log) .number ≡ 0
+    → runRefusal (callOf cells operations (take k schedule) answers log) .number ≡ 0
+unfolding runRefusal runConditions sizeNotAllowed tooMany tooShort badCell badOperation badEntry repeatedKey unreachableKey atFirst
+beginning-accepted cells operations schedule answers log k e =
+    let ok = accepted-call (callOf cells operations schedule answers log) e in
+    let (size, (many, (slices, (cell, (operation, (entry, table)))))) =
+    none-met (runConditions (callOf cells operations schedule answers log)) (omega arith) e in
+    let few = neither (ltb mostOperations (length operations)) (ltb mostEntries (length schedule)) many .0 in
+    let short = le-ltb mostEntries (length (take k schedule)) (omega (arith, ok .short, length-take k schedule)) in
+    let entries : someBelow (length (take k schedule)) (λ i. leb (length operations) (getD (take k schedule) i 0)) ≡ false =
+    none-some-below _ _ (λ i b.
+    rw (getD-take k schedule i 0 (omega (arith, length-take k schedule)))
+    (none-below (length schedule) _ entry i (omega (arith, length-take k schedule)))) in
+    none-accepts (runConditions (callOf cells operations (take k schedule) answers log))
+    (size, (rw (few, short), (slices, (cell, (operation, (entries, table))))))

@@ -14,14 +14,14 @@ use lib.ListN.{length, getElem?, length-map}
 use Rattle.semantics.specs.Basics.{isSome, occurs, anyOf}
 use Rattle.semantics.specs.Cells.{Setting, Cell, Kind, find, insert, update, add, remove, Operation, lookup}
 use Rattle.semantics.specs.Step.{Row, Machine, answered, answerIn, finishedIn, doneCount, run}
-use Rattle.semantics.specs.Map.{Map, Done, Replay, withPair, unchanged, replaced, mapOf, stored, perform, performed, noted, replayOne, replay, Linearizable}
+use Rattle.semantics.specs.Map.{Map, Done, Replay, withPair, unchanged, replaced, mapOf, stored, perform, performed, noted, replayOne, replay}
 use Rattle.semantics.specs.TotalsRule.{isAdd, isFindOrAdd, onlyFindsAndAdds, isPresent, addsTo, isAdded, amountsAdded, countsAt, roomsToMake}
-use Rattle.semantics.specs.TotalsRule.{CellsSuffice, EveryOperationFinishes, expectedFrom, expected, TotalsRule}
+use Rattle.semantics.specs.TotalsRule.{CellsSuffice, expectedFrom, expected}
 use Rattle.semantics.proofs.Laws.{Lawful, Accepted}
 use Rattle.semantics.proofs.Lists.{elem-getD, all-at, any-at}
 use Rattle.semantics.proofs.Counts.{cond-swap, count-each}
 use Rattle.semantics.proofs.Orders.{fold-any-order, indices, occurs-indices, fold-indices}
-use Rattle.semantics.proofs.Linearizability.{linearizable}
+use Rattle.semantics.proofs.Linearizability.{Linearized, linearizable}
 
 -- key k counted as present too
 unfoldable with-key : ℕ → (ℕ → Bool) → ℕ → Bool
@@ -214,7 +214,7 @@ module _ (S : Setting) (L : Lawful S) where
             ih (noted S r (performed S m o)) (p .enough) ∙ ap (λ (z : Option (S .Total)). addFrom k z l) (p .pairs k)
 
   -- where every operation has finished, the log names each of them once
-  each-once : (start : List (Cell (S .Total))) (ops : List (Operation (S .Total))) (m : Machine (S .Total)) → Linearizable S start ops m
+  each-once : (start : List (Cell (S .Total))) (ops : List (Operation (S .Total))) (m : Machine (S .Total)) → Linearized S start ops m
       → doneCount (m .rows) ≡ length ops
       → (i : ℕ) → occurs i (m .log) ≡ occurs i (indices (length ops))
   each-once start ops m lin done i =
@@ -230,8 +230,11 @@ module _ (S : Setting) (L : Lawful S) where
       there = sym (some-map operationOf (m .rows) i) ∙ ap (λ (l : List (Operation (S .Total))). isSome (getElem? l i)) (lin .operations)
 
   pub totals-rule : (start : List (Cell (S .Total))) → Accepted S start → (ops : List (Operation (S .Total))) (schedule : List ℕ)
-      → TotalsRule S start ops schedule
-  unfolding TotalsRule EveryOperationFinishes CellsSuffice expected replay mapOf Enough isPresent add-to
+      → Holds (onlyFindsAndAdds ops)
+      → doneCount (run S start ops schedule .rows) ≡ length ops
+      → CellsSuffice S start ops
+      → (k : ℕ) → lookup k (run S start ops schedule .cells) ≡ expected S start ops k
+  unfolding CellsSuffice expected replay mapOf Enough isPresent add-to
   totals-rule start ok ops schedule only finish suffice k =
       lin .pairs k
       ∙ replayed ops only log (record { now = mapOf start; answers = [] }) suffice k
@@ -240,7 +243,7 @@ module _ (S : Setting) (L : Lawful S) where
       ∙ fold-indices (add-to k) (lookup k start) ops
       ∙ add-all k ops (lookup k start)
     where
-      lin : Linearizable S start ops (run S start ops schedule)
+      lin : Linearized S start ops (run S start ops schedule)
       lin = linearizable S L start ops ok schedule
 
       log : List ℕ

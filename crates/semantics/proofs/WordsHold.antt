@@ -1,35 +1,37 @@
--- Demands 2 and 3 on words: of every call that the run accepts, with no assumption left.
+-- Demands 1 to 3 on words: of every call, with no assumption left.
 -- Assumes nothing.
 use mathlib.Core.Path.{_≡_, refl, ap, sym, subst, _∙_}
-use Prim.Native.Nat.{ℕ, zero, suc, _+_, _≤_, _<_, min, suc-le-suc}
+use Prim.Native.Nat.{ℕ, zero, suc, _+_, _≤_, _<_, suc-le-suc}
 use mathlib.Core.Bool.{Bool, true, false, cond, true≢false}
 use mathlib.Core.List.{List, [], _∷_, _++_, map, map-map, foldl-append}
 use mathlib.Core.Option.{Option, none, some}
+use native.Mathlib.Decide.{ℕ-discrete}
+use native.Mathlib.Numerals.{add-one}
 use native.Mathlib.Omega.{arith}
-use lib.Dec.{T, eqb}
-use borrow.Author.Tests.{eqb-true, eqb-false}
-use lib.ListN.{length, getD, getElem?, take, drop, length-map, List·getD-map}
-use lib.Seq.{take-at}
+use borrow.Author.Tests.{eq-eqb, ne-eqb}
+use lib.Dec.{T}
+use lib.ListN.{length, getD, getElem?, take, drop, length-take, length-map}
+use lib.Seq.{take-at, take-suc, take-take, getD-take, split-at}
 use Rattle.semantics.specs.Basics.{isSome, occurs}
-use Rattle.semantics.specs.Totals.{Total, amounts, narrow, narrowCeiling, sumAt, heldAt}
+use Rattle.semantics.specs.declared.Refusal.{Refusal}
+use Rattle.semantics.specs.Totals.{Total}
 use Rattle.semantics.specs.Cells.{Setting, Cell, empty, Operation, Answer, keyed, lookup, usedCells}
 use Rattle.semantics.specs.Step.{doneCount, Row, Machine, answerIn, finishedIn}
 use Rattle.semantics.specs.Step.{entry, begin, run}
-use Rattle.semantics.specs.Map.{replay, Linearizable}
-use Rattle.semantics.specs.TotalsRule.{TotalsRule, EveryOperationFinishes, amountsAdded, addsTo, expectedFrom, expected}
-use Rattle.semantics.specs.Words.{decode, encode, decodeOperation, answerWord, narrowSetting, isLiveKey, keyOf, totalBits}
-use Rattle.semantics.specs.Refusals.{Call, runRefusal, callOf}
-use Rattle.semantics.specs.Run.{Result, over, machine, answerOf, outcomeOf, acceptedResult, refusedResult, resultIf, runResult, amountIn, roomTotal, replayWords, LinearizableWords, heldSum, TotalsWords}
+use Rattle.semantics.specs.Map.{replay}
+use Rattle.semantics.specs.TotalsRule.{onlyFindsAndAdds, CellsSuffice, expected}
+use Rattle.semantics.specs.Words.{decode, encode, decodeOperation, answerWord, narrowSetting}
+use Rattle.semantics.specs.Refusals.{Call, callOf}
+use Rattle.semantics.specs.Run.{Result, over, machine, answerOf, outcomeOf, acceptedResult, refusalOf, refusedResult, resultIf, runResult}
+use Rattle.semantics.specs.Demands.{logOf, replayOf, Linearizable, TotalsKept, afterEntries, AcceptedCall, Demands}
 use Rattle.semantics.proofs.Lists.{map-on}
 use Rattle.semantics.proofs.Over.{over-get}
-use Rattle.semantics.proofs.Booleans.{passed as affirm}
-use Rattle.semantics.proofs.Table.{keyed-live, Looked, nowhere, somewhere, looked}
-use Rattle.semantics.proofs.Linearizability.{linearizable}
+use Rattle.semantics.proofs.Linearizability.{Linearized, linearizable, unfinished-untouched}
 use Rattle.semantics.proofs.TotalsHold.{totals-rule}
 use Rattle.semantics.proofs.Narrow.{allowed-lawful, allowed-bounds}
-use Rattle.semantics.proofs.Words.{Packed, Packs, decode-encode-all, keyed-is-live}
+use Rattle.semantics.proofs.Words.{decode-encode-all}
 use Rattle.semantics.proofs.RunPacks.{AllPack, run-packs}
-use Rattle.semantics.proofs.Start.{Passed, accepted-call, start-accepted, start-packs, operations-packed}
+use Rattle.semantics.proofs.Start.{Passed, accepted-call, start-accepted, start-packs, operations-packed, beginning-accepted}
 
 -- a written answer is its row's, as far as there are rows
 answers-of : (rows : List (Row Total)) (i : ℕ) → getD (map answerOf rows) i 0 ≡ answerWord (answerIn (getElem? rows i))
@@ -71,54 +73,6 @@ at-most-one : {n : ℕ} (z : Bool) → n ≡ cond z 1 0 → n ≤ 1
 at-most-one true e = omega arith
 at-most-one false e = omega arith
 
--- a live key's word is its live cell
-live-keyed : (ws : List ℕ) (i : ℕ) → T (isLiveKey (keyOf (getD ws i 0)))
-    → keyed (keyOf (getD ws i 0)) (getD (map decode ws) i empty) ≡ some (narrow (totalBits (getD ws i 0)))
-unfolding decode isLiveKey
-live-keyed ws i l =
-    let w = getD ws i 0 in
-    rw (List·getD-map decode ws i 0, affirm (isLiveKey (keyOf w)) l) (keyed-live (keyOf w) (narrow (totalBits w)))
-
--- what is summed and held is the plain sum, held
-held-amount : (t : Total) (added : List Total) → t .amount ≤ narrowCeiling
-    → sumAt narrowCeiling t added .amount ≡ min (t .amount + amounts added) narrowCeiling
-unfolding sumAt heldAt amounts
-held-amount t [] h = omega arith
-held-amount t (a ∷ more) h = refl
-
-unfoldable SmallIf : Option Total → Type 0
-SmallIf none = Unit {0}
-SmallIf (some t) = t .amount ≤ narrowCeiling
-
-unfoldable SmallFirst : List Total → Type 0
-SmallFirst [] = Unit {0}
-SmallFirst (t ∷ more) = t .amount ≤ narrowCeiling
-
-expected-held : (c : ℕ) (z : Option Total) (added : List Total) → SmallIf z → SmallFirst added
-    → amountIn (expectedFrom (narrowSetting c) z added) ≡ heldSum (amountIn z) added
-unfolding amountIn expectedFrom heldSum SmallIf SmallFirst amounts
-expected-held c none [] h l = refl
-expected-held c none (a ∷ more) h l = ap some (held-amount a more l)
-expected-held c (some t) added h l = ap some (held-amount t added h)
-
-present-small : (k : ℕ) (cells : List (Cell Total)) → ((i : ℕ) → Packs (getD cells i empty)) → SmallIf (lookup k cells)
-unfolding SmallIf
-present-small k cells h = go (looked k cells)
-  where
-    go : {z : Option Total} → Looked k cells z → SmallIf z
-    go (nowhere f) = tt
-    go (somewhere {t = t} j e) = let p : Packed k t = subst Packs (keyed-is-live k (getD cells j empty) t e) (h j) in p .small
-
-added-small : (k : ℕ) (l : List (Operation Total)) → ((i : ℕ) (o : Operation Total) → getElem? l i ≡ some o → o .amount .amount ≤ narrowCeiling)
-    → SmallFirst (amountsAdded k l)
-unfolding SmallFirst amountsAdded
-added-small k [] h = tt
-added-small k (o ∷ l) h = go (addsTo k o) (added-small k l (λ i. h (suc i)))
-  where
-    go : (z : Bool) → SmallFirst (amountsAdded k l) → SmallFirst (cond z (o .amount ∷ amountsAdded k l) (amountsAdded k l))
-    go true f = h 0 o refl
-    go false f = f
-
 -- of a call that the checks let pass, after any schedule
 module _ (call : Call) (ok : Passed call) where
   abbrev c : ℕ
@@ -136,7 +90,7 @@ module _ (call : Call) (ok : Passed call) where
   abbrev pub after : List ℕ → Machine Total
   after schedule = machine (call .cells) (call .operations) schedule
 
-  pub lin : (schedule : List ℕ) → Linearizable S start ops (after schedule)
+  pub lin : (schedule : List ℕ) → Linearized S start ops (after schedule)
   unfolding machine
   lin schedule = linearizable S (allowed-lawful c (ok .size)) start ops (start-accepted call ok) schedule
 
@@ -145,27 +99,38 @@ module _ (call : Call) (ok : Passed call) where
   unfolding machine run
   one-entry entries i = foldl-append (entry S) (begin S start ops) entries (i ∷ [])
 
-  finishes-none : (entries : List ℕ) (i : ℕ) → after (entries ++ (i ∷ [])) .log ≡ after entries .log
-      → finishedIn (entry S (after entries) i .rows) i ≡ finishedIn (after entries .rows) i
-  finishes-none entries i e =
-      ap (λ (n : Machine Total). finishedIn (n .rows) i) (sym (one-entry entries i))
-      ∙ one-or-none (finishedIn (after (entries ++ (i ∷ [])) .rows) i) (finishedIn (after entries .rows) i)
-      (sym (lin (entries ++ (i ∷ [])) .once i) ∙ ap (occurs i) e ∙ lin entries .once i)
+  -- an entry whose operation is unfinished after the later ones too
+  split-untouched : (entries : List ℕ) (i : ℕ) (later : List ℕ) → occurs i (after (entries ++ (i ∷ later)) .log) ≡ 0
+      → after (entries ++ (i ∷ [])) .cells ≡ after entries .cells
+  unfolding machine run
+  split-untouched entries i later e =
+      ap (λ (m : Machine Total). m .cells) (one-entry entries i)
+      ∙ unfinished-untouched S (allowed-lawful c (ok .size)) start ops (start-accepted call ok) entries i later
+      (ap (λ (m : Machine Total). occurs i (m .log)) (sym (foldl-append (entry S) (begin S start ops) entries (i ∷ later))) ∙ e)
+
+  -- the same by numbers: entry k, after n entries
+  pub untouched-after : (schedule : List ℕ) (n k : ℕ) → k < n → k < length schedule → occurs (getD schedule k 0) (after (take n schedule) .log) ≡ 0
+      → after (take (k + 1) schedule) .cells ≡ after (take k schedule) .cells
+  untouched-after schedule n k h b e =
+      let i = getD schedule k 0 in
+      let l = take n schedule in
+      let parts : l ≡ take k schedule ++ (i ∷ drop (suc k) l) =
+      split-at l k 0 (omega (arith, length-take n schedule)) ∙ rw (take-take k n schedule (omega arith), getD-take n schedule k 0 h) in
+      let one-more : take (k + 1) schedule ≡ take k schedule ++ (i ∷ []) = rw add-one (take-suc schedule k 0 b) in
+      ap (λ (s : List ℕ). after s .cells) one-more
+      ∙ split-untouched (take k schedule) i (drop (suc k) l) (ap (λ (s : List ℕ). occurs i (after s .log)) (sym parts) ∙ e)
 
   module _ (schedule : List ℕ) where
     abbrev m : Machine Total
     m = after schedule
 
     -- the words that a run leaves stand for its cells
-    words : List ℕ
-    words = map encode (m .cells)
-
     pub packs : AllPack c m
     unfolding machine
     packs = run-packs c start ops (omega (arith, allowed-bounds c (ok .size))) (length-map (call .cells) decode) (start-packs call ok) (operations-packed call ok) schedule
 
-    back : map decode words ≡ m .cells
-    unfolding words machine
+    back : map decode (map encode (m .cells)) ≡ m .cells
+    unfolding machine
     back = decode-encode-all (m .cells) (λ i b. packs .cells i)
 
     pub same-length : length (m .rows) ≡ length (call .operations)
@@ -175,91 +140,119 @@ module _ (call : Call) (ok : Passed call) where
     logged-below : (i : ℕ) → 0 < occurs i (m .log) → i < length (m .rows)
     logged-below i h = finished-below (m .rows) i (one-true (finishedIn (m .rows) i) (omega (arith, lin schedule .once i)))
 
-    written-answers : (answers : List ℕ)
-        → map (λ i. getD (over (map answerOf (m .rows)) answers) i 0) (m .log)
-        ≡ map (λ a. answerWord (some a)) (replay S start ops (m .log) .answers)
-    written-answers answers =
-        map-on (λ i. getD (over (map answerOf (m .rows)) answers) i 0) (λ i. answerWord (answerIn (getElem? (m .rows) i))) (m .log)
-        (λ i h. answer-at (m .rows) answers i (logged-below i h))
-        ∙ sym (map-map answerWord (λ i. answerIn (getElem? (m .rows) i)) (m .log))
-        ∙ ap (map answerWord) (lin schedule .answers)
-        ∙ map-map answerWord some (replay S start ops (m .log) .answers)
+    module _ (answers log : List ℕ) where
+      abbrev result : Result
+      result = acceptedResult m answers log
 
-    unwritten : (answers : List ℕ) (i : ℕ) → i < length (call .operations) → occurs i (m .log) ≡ 0
-        → getD (over (map answerOf (m .rows)) answers) i 0 ≡ 0
-    unwritten answers i h e =
-        answer-at (m .rows) answers i (omega (arith, same-length))
-        ∙ unanswered (m .rows) i (one-or-none (finishedIn (m .rows) i) false (sym (lin schedule .once i) ∙ e))
+      -- the log that was written is the first of its slice, one for each finished operation
+      written-log : logOf result ≡ m .log
+      unfolding over acceptedResult outcomeOf
+      written-log = take-at (m .log) (drop (length (m .log)) log) (doneCount (m .rows)) (sym (lin schedule .counted))
 
-    one-cell : (i j : ℕ) → T (isLiveKey (keyOf (getD words i 0))) → keyOf (getD words i 0) ≡ keyOf (getD words j 0) → i ≡ j
-    one-cell i j l e =
-        let a = live-keyed words i l in
-        let b = live-keyed words j (subst (λ (k : ℕ). T (isLiveKey k)) e l) in
-        lin schedule .distinct (keyOf (getD words i 0)) i j _ _ (rw back at a) (rw (back, ← e) at b)
+      written-answers : map (λ i. getD (over (map answerOf (m .rows)) answers) i 0) (m .log)
+          ≡ map (λ a. answerWord (some a)) (replay S start ops (m .log) .answers)
+      written-answers =
+          map-on (λ i. getD (over (map answerOf (m .rows)) answers) i 0) (λ i. answerWord (answerIn (getElem? (m .rows) i))) (m .log)
+          (λ i h. answer-at (m .rows) answers i (logged-below i h))
+          ∙ sym (map-map answerWord (λ i. answerIn (getElem? (m .rows) i)) (m .log))
+          ∙ ap (map answerWord) (lin schedule .answers)
+          ∙ map-map answerWord some (replay S start ops (m .log) .answers)
 
-    words-linearizable : (answers : List ℕ)
-        → LinearizableWords (call .cells) (call .operations) schedule (map encode (m .cells)) (over (map answerOf (m .rows)) answers) (m .log)
-    unfolding words roomTotal replayWords
-    words-linearizable answers =
-        record {
-          answers = written-answers answers;
-          named = λ i h. omega (arith, logged-below i h, same-length);
-          once = λ i. at-most-one (finishedIn (m .rows) i) (lin schedule .once i);
-          unfinished = unwritten answers;
-          totals = λ k. ap (λ (l : List (Cell Total)). amountIn (lookup k l)) back ∙ ap amountIn (lin schedule .pairs k);
-          used = ap usedCells back ∙ lin schedule .used;
-          distinct = one-cell;
-          untouched = λ entries i last e.
-              ap (λ (n : Machine Total). map encode (n .cells)) (ap after last ∙ one-entry entries i)
-              ∙ ap (map encode) (lin entries .untouched i (finishes-none entries i (ap (λ (l : List ℕ). after l .log) (sym last) ∙ e)));
-        }
+      unwritten : (i : ℕ) → i < length (call .operations) → occurs i (m .log) ≡ 0
+          → getD (over (map answerOf (m .rows)) answers) i 0 ≡ 0
+      unwritten i h e =
+          answer-at (m .rows) answers i (omega (arith, same-length))
+          ∙ unanswered (m .rows) i (one-or-none (finishedIn (m .rows) i) false (sym (lin schedule .once i) ∙ e))
 
-    rule : TotalsRule S start ops schedule
-    rule = totals-rule S (allowed-lawful c (ok .size)) start (start-accepted call ok) ops schedule
+      words-linearizable : Linearizable (call .cells) (call .operations) result
+      unfolding acceptedResult outcomeOf replayOf
+      words-linearizable =
+          record {
+            answers = rw written-log written-answers;
+            pairs = λ k. rw (back, written-log) (lin schedule .pairs k);
+            used = rw (back, written-log) (lin schedule .used);
+            named = rw written-log (λ i h. omega (arith, logged-below i h, same-length));
+            once = rw written-log (λ i. at-most-one (finishedIn (m .rows) i) (lin schedule .once i));
+            unfinished = rw written-log unwritten;
+            distinct = rw back (lin schedule .distinct);
+          }
 
-    words-totals : TotalsWords (call .cells) (call .operations) (map encode (m .cells)) (doneCount (m .rows))
-    unfolding words TotalsWords TotalsRule EveryOperationFinishes expected roomTotal machine
-    words-totals only done suffice k =
-        ap (λ (l : List (Cell Total)). amountIn (lookup k l)) back
-        ∙ ap amountIn (rule only (done ∙ sym (length-map (call .operations) decodeOperation)) suffice k)
-        ∙ expected-held c (lookup k start) (amountsAdded k ops) (present-small k start (start-packs call ok))
-        (added-small k ops (λ i o e. operations-packed call ok i o e .small))
+      words-totals : TotalsKept (call .cells) (call .operations) result
+      unfolding TotalsKept acceptedResult outcomeOf machine
+      words-totals only done suffice k =
+          ap (lookup k) back
+          ∙ totals-rule S (allowed-lawful c (ok .size)) start (start-accepted call ok) ops schedule only (done ∙ sym (length-map (call .operations) decodeOperation))
+          suffice k
 
--- Demands 2 and 3 of every call that is not turned away, as the run leaves it.
+-- what a call leaves: it is turned away, or it leaves what its entries come to
 module _ (cells operations schedule answers log : List ℕ) where
-  abbrev called : Call
-  called = callOf cells operations schedule (length answers) (length log)
-
   abbrev left : Result
   left = runResult cells operations schedule answers log
 
-  abbrev end : Machine Total
-  end = machine cells operations schedule
+  abbrev refusal : Refusal
+  refusal = refusalOf cells operations schedule answers log
 
-  pub accepted : left .outcome .number ≡ 0 → Passed called × (left ≡ acceptedResult end answers log)
-  unfolding runResult resultIf refusedResult
-  accepted = go (eqb (runRefusal called .number) 0) refl
-    where
-      go : (z : Bool) → eqb (runRefusal called .number) 0 ≡ z → resultIf cells operations schedule answers log z .outcome .number ≡ 0
-          → Passed called × (resultIf cells operations schedule answers log z ≡ acceptedResult end answers log)
-      go true q e = (accepted-call called (eqb-true (runRefusal called .number) 0 q), refl)
-      go false q e = absurd (eqb-false (runRefusal called .number) 0 q e)
+  pub accepted : refusal .number ≡ 0 → left ≡ acceptedResult (machine cells operations schedule) answers log
+  unfolding runResult resultIf
+  accepted e = ap (resultIf cells operations schedule answers log) (eq-eqb (refusal .number) 0 e)
 
-  -- the log that was written is the first of its slice, one for each finished operation
-  written-log : Passed called → take (doneCount (end .rows)) (over (end .log) log) ≡ end .log
-  unfolding over
-  written-log ok = take-at (end .log) (drop (length (end .log)) log) (doneCount (end .rows)) (sym (lin called ok schedule .counted))
+  pub refused : (refusal .number ≡ 0 → ⊥) → left ≡ refusedResult refusal cells answers log
+  unfolding runResult resultIf
+  refused h = ap (resultIf cells operations schedule answers log) (ne-eqb (refusal .number) 0 h)
 
-  pub linearizable-words : left .outcome .number ≡ 0
-      → LinearizableWords cells operations schedule (left .cells) (left .answers) (take (left .outcome .done) (left .log))
-  unfolding acceptedResult outcomeOf
-  linearizable-words e =
-      let (ok, q) = accepted e in
-      subst (λ (r : Result). LinearizableWords cells operations schedule (r .cells) (r .answers) (take (r .outcome .done) (r .log))) (sym q)
-      (rw (written-log ok) (words-linearizable called ok schedule answers))
+  pub number-is : left .outcome .number ≡ refusal .number
+  unfolding acceptedResult outcomeOf refusedResult
+  number-is = elim (ℕ-discrete (refusal .number) 0) [
+    | yes e ↦ ap (λ (r : Result). r .outcome .number) (accepted e) ∙ sym e
+    | no h ↦ ap (λ (r : Result). r .outcome .number) (refused h)
+  ]
 
-  pub totals-words : left .outcome .number ≡ 0 → TotalsWords cells operations (left .cells) (left .outcome .done)
-  unfolding acceptedResult outcomeOf
-  totals-words e =
-      let (ok, q) = accepted e in
-      subst (λ (r : Result). TotalsWords cells operations (r .cells) (r .outcome .done)) (sym q) (words-totals called ok schedule)
+-- the theorem
+module _ (cells operations schedule answers log : List ℕ) where
+  abbrev result-after : ℕ → Result
+  result-after = afterEntries cells operations schedule answers log
+
+  module _ (e : refusalOf cells operations schedule answers log .number ≡ 0) where
+    abbrev called : ℕ → Call
+    called k = callOf cells operations (take k schedule) (length answers) (length log)
+
+    ok-after : (k : ℕ) → refusalOf cells operations (take k schedule) answers log .number ≡ 0
+    ok-after k = beginning-accepted cells operations schedule (length answers) (length log) k e
+
+    rules : (k : ℕ) → result-after k ≡ acceptedResult (machine cells operations (take k schedule)) answers log
+    rules k = accepted cells operations (take k schedule) answers log (ok-after k)
+
+    passed : (k : ℕ) → Passed (called k)
+    passed k = accepted-call (called k) (ok-after k)
+
+    log-after : (k : ℕ) → logOf (result-after k) ≡ machine cells operations (take k schedule) .log
+    log-after k = ap (λ (r : Result). logOf r) (rules k) ∙ written-log (called k) (passed k) (take k schedule) answers log
+
+    accepted-call-is : AcceptedCall cells operations schedule answers log (runResult cells operations schedule answers log)
+    unfolding acceptedResult
+    accepted-call-is =
+        let call = callOf cells operations schedule (length answers) (length log) in
+        let ok = accepted-call call e in
+        record {
+          rules = rules;
+          linearizable = λ k.
+              subst (Linearizable cells operations) (sym (rules k)) (words-linearizable (called k) (passed k) (take k schedule) answers log);
+          untouched = λ n k h b q.
+              ap (λ (r : Result). r .cells) (rules (k + 1))
+              ∙ ap (map encode) (untouched-after call ok schedule n k h b (ap (occurs (getD schedule k 0)) (sym (log-after n)) ∙ q))
+              ∙ ap (λ (r : Result). r .cells) (sym (rules k));
+          totals = subst (TotalsKept cells operations) (sym (accepted cells operations schedule answers log e)) (words-totals call ok schedule answers log);
+        }
+
+  pub demands : Demands cells operations schedule answers log (runResult cells operations schedule answers log)
+  demands =
+      let number = number-is cells operations schedule answers log in
+      record {
+        result = refl;
+        refused = λ h. refused cells operations schedule answers log (λ e. h (number ∙ e));
+        accepted = λ e. accepted-call-is (sym number ∙ e);
+      }
+
+  -- of any result that equals it
+  pub demands-of : (r : Result) → runResult cells operations schedule answers log ≡ r → Demands cells operations schedule answers log r
+  demands-of r e = subst (Demands cells operations schedule answers log) e demands

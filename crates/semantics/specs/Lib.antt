@@ -9,6 +9,7 @@ pub mod Map
 pub mod TotalsRule
 pub mod Refusals
 pub mod Run
+pub mod Demands
 pub mod Text
 pub mod Records
 pub mod RunFile

@@ -1,17 +1,14 @@
 -- Document 01, "The one-at-a-time map": a second statement of what is right. Its arms are its own: none of Step.antt's rules is used here.
--- Demand 2, that any run is one of this map, is `Linearizable` below; proofs/Linearizability.antt proves it.
+-- Demand 2, that any run is one of this map, is `Linearizable` of Demands.antt.
 -- Assumes nothing.
-use mathlib.Core.Path.{_≡_}
 use Prim.Native.Nat.{ℕ, suc}
 use mathlib.Core.Bool.{cond}
-use mathlib.Core.List.{List, [], _∷_, _++_, map, foldl}
+use mathlib.Core.List.{List, [], _∷_, _++_, foldl}
 use mathlib.Core.Option.{Option, none, some}
 use lib.Dec.{eqb}
-use lib.ListN.{length, getD, getElem?}
-use Rattle.semantics.specs.Basics.{occurs}
-use Rattle.semantics.specs.Cells.{Setting, Cell, empty, Kind, find, insert, update, add, remove, Operation, lookup, usedCells, keyed}
+use lib.ListN.{getElem?}
+use Rattle.semantics.specs.Cells.{Setting, Cell, Kind, find, insert, update, add, remove, Operation, lookup, usedCells}
 use Rattle.semantics.specs.Cells.{Answer, found, present, changed, removed, inserted, absent, full}
-use Rattle.semantics.specs.Step.{Row, Machine, entry, answerIn, finishedIn, doneCount}
 
 -- "It holds pairs and a number of used cells": each key's total, or none
 pub record Map (T : Type 0) : Type 0 where
@@ -79,21 +76,3 @@ module _ (S : Setting) where
 
   unfoldable pub replay : List (Cell (S .Total)) → List (Operation (S .Total)) → List ℕ → Replay (S .Total)
   replay cells ops log = foldl (λ r i. replayOne r (getElem? ops i)) (record { now = mapOf cells; answers = [] }) log
-
-  -- Demand 2, of a machine m that a run from the starting cells has come to, after any number of entries.
-  pub record Linearizable (start : List (Cell (S .Total))) (ops : List (Operation (S .Total))) (m : Machine (S .Total)) : Type 0 where
-    -- the operations are those given
-    pub operations : map (λ (r : Row (S .Total)). r .operation) (m .rows) ≡ ops
-    -- every finished answer is the map's, the operations taken in log order
-    pub answers : map (λ i. answerIn (getElem? (m .rows) i)) (m .log) ≡ map some (replay start ops (m .log) .answers)
-    -- the live pairs are the map's
-    pub pairs : (k : ℕ) → lookup k (m .cells) ≡ replay start ops (m .log) .now .pairs k
-    -- its used count is the number of cells not empty
-    pub used : usedCells (m .cells) ≡ replay start ops (m .log) .now .used
-    -- no key has two live cells
-    pub distinct : (k i j : ℕ) (t u : S .Total) → keyed k (getD (m .cells) i empty) ≡ some t → keyed k (getD (m .cells) j empty) ≡ some u → i ≡ j
-    -- every finished operation is in the log exactly once, and no other is
-    pub once : (i : ℕ) → occurs i (m .log) ≡ cond (finishedIn (m .rows) i) 1 0
-    pub counted : doneCount (m .rows) ≡ length (m .log)
-    -- an entry that does not finish its operation leaves the cells as they were
-    pub untouched : (i : ℕ) → finishedIn (entry S m i .rows) i ≡ finishedIn (m .rows) i → entry S m i .cells ≡ m .cells

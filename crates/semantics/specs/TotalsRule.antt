@@ -1,15 +1,13 @@
--- Document 01, "The totals rule, which is demand 3": one claim about a whole schedule. proofs/TotalsHold.antt proves it.
+-- Document 01, "The totals rule, which is demand 3": what it asks of a run, and what each room then has. The rule itself, one claim about a
+-- whole schedule, is `TotalsKept` of Demands.antt.
 -- Assumes nothing.
-use mathlib.Core.Path.{_≡_}
 use Prim.Native.Nat.{ℕ, suc, _+_, _≤_}
 use mathlib.Core.Bool.{Bool, true, false, cond, _&&_, not}
 use mathlib.Core.List.{List, [], _∷_}
 use mathlib.Core.Option.{Option, none, some}
-use lib.Dec.{T, eqb}
-use lib.ListN.{length}
+use lib.Dec.{eqb}
 use Rattle.semantics.specs.Basics.{isSome, allOf, anyOf}
 use Rattle.semantics.specs.Cells.{Setting, Cell, Kind, find, insert, update, add, remove, Operation, lookup, usedCells}
-use Rattle.semantics.specs.Step.{run, doneCount}
 
 unfoldable pub isAdd : Kind → Bool
 isAdd find = false
@@ -59,10 +57,6 @@ module _ (S : Setting) where
   unfoldable pub CellsSuffice : List (Cell (S .Total)) → List (Operation (S .Total)) → Type 0
   CellsSuffice start ops = usedCells start + roomsToMake (isPresent start) ops ≤ S .size
 
-  -- "Every operation finishes if .. each row is finished by some entry, so that done equals the number of rows."
-  unfoldable pub EveryOperationFinishes : List (Cell (S .Total)) → List (Operation (S .Total)) → List ℕ → Type 0
-  EveryOperationFinishes start ops schedule = doneCount (run S start ops schedule .rows) ≡ length ops
-
   -- "they and the starting total are summed as whole numbers before the sum is held": what a room has at the end, if anything
   unfoldable pub expectedFrom : Option (S .Total) → List (S .Total) → Option (S .Total)
   expectedFrom (some t) added = some (S .sum t added)
@@ -71,11 +65,3 @@ module _ (S : Setting) where
 
   unfoldable pub expected : List (Cell (S .Total)) → List (Operation (S .Total)) → ℕ → Option (S .Total)
   expected start ops k = expectedFrom (lookup k start) (amountsAdded k ops)
-
-  -- Demand 3: whoever picks the schedule, each room ends with its expected total, or is not there.
-  unfoldable pub TotalsRule : List (Cell (S .Total)) → List (Operation (S .Total)) → List ℕ → Type 0
-  TotalsRule start ops schedule =
-      T (onlyFindsAndAdds ops)
-      → EveryOperationFinishes start ops schedule
-      → CellsSuffice start ops
-      → (k : ℕ) → lookup k (run S start ops schedule .cells) ≡ expected start ops k

@@ -17,7 +17,7 @@ same-length-3 : tie.Need-same-length-3
 same-length-3 c = search needs
 
 returns : tie.Need-returns
-returns c = c .before .before .before .before .before .before .run .ensures .0
+returns c = c .before .before .before .before .before .before .run .ensures .result
 
 pub room-run-spec : {M : Type 1} → statement M
 room-run-spec = tie.close (tie.spec run-requires same-length same-length-2 same-length-3 returns)

@@ -24,7 +24,7 @@ same-length-4 : tie.Need-same-length-4
 same-length-4 c = search needs
 
 returns : tie.Need-returns
-returns c = run-listed _ _ (c .before .before .before .before .before .before .before .before .before .before .before .before .before .run .ensures .0) (c .before .before .list .ensures)
+returns c = run-listed _ _ (c .before .before .before .before .before .before .before .before .before .before .before .before .before .run .ensures .result) (c .before .before .list .ensures)
 
 pub run-and-list-spec : {M : Type 1} → statement M
 run-and-list-spec =

@@ -5,7 +5,7 @@ use denote.Ref.{now}
 use borrow.Author.Needs.{needs}
 use Rattle.semantics.specs.declared.Refusal.{Refusal}
 use Rattle.semantics.specs.Run.{refusalOf, refusedResult}
-use Rattle.run.proofs.Result.{accepted, refused, kept}
+use Rattle.semantics.proofs.WordsHold.{accepted, refused, demands-of}
 use Rattle.run.proofs.run.Statement.{statement}
 use Rattle.run.proofs.run.Tie as tie
 
@@ -31,7 +31,7 @@ same-length-3 c = search needs
 returns : tie.Need-returns
 returns c =
     let ran = c .before .before .before .before .before .before in
-    kept _ _ _ _ _ _ (accepted _ _ _ _ _ (number-0 (ran .before .before .before .before)) ∙ ran .entries .ensures)
+    demands-of _ _ _ _ _ _ (accepted _ _ _ _ _ (number-0 (ran .before .before .before .before)) ∙ ran .entries .ensures)
 
 refused-requires : tie.Need-refused-requires
 refused-requires c κs = search needs
@@ -45,7 +45,7 @@ returns-2 c =
     let judged = c .before .before .before in
     let a = judged .before .before .before .before .before .before .before .args in
     let is = judged .validate .ensures in
-    kept _ _ _ _ _ _
+    demands-of _ _ _ _ _ _
     (refused _ _ _ _ _ (λ e. c .before .if1 .left (ap (λ (r : Refusal). r .number) is ∙ e))
     ∙ ap (λ (r : Refusal). refusedResult r (a .cells .now) (a .answers .now) (a .log .now)) (sym is)
     ∙ (λ i. record { outcome = sym (c .refused .ensures) i; cells = a .cells .now; answers = a .answers .now; log = a .log .now }))
