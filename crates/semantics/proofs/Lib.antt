@@ -21,3 +21,4 @@ pub mod WordsHold
 pub mod Lengths
 pub mod Bounded
 pub mod Cases
+pub mod Refuted

@@ -23,7 +23,7 @@ use Rattle.semantics.specs.TotalsRule.{onlyFindsAndAdds, CellsSuffice, e
 use Rattle.semantics.specs.Words.{decode, encode, decodeOperation, answerWord, narrowSetting}
 use Rattle.semantics.specs.Refusals.{Call, callOf}
 use Rattle.semantics.specs.Run.{Result, over, machine, answerOf, outcomeOf, acceptedResult, refusalOf, refusedResult, resultIf, runResult}
-use Rattle.semantics.specs.Demands.{logOf, replayOf, Linearizable, TotalsKept, afterEntries, AcceptedCall, Demands}
+use Rattle.semantics.specs.Demands.{logOf, replayOf, Linearizable, TotalsKept, Untouched, afterEntries, AcceptedCall, Demands}
 use Rattle.semantics.proofs.Lists.{map-on}
 use Rattle.semantics.proofs.Over.{over-get}
 use Rattle.semantics.proofs.Linearizability.{Linearized, linearizable, unfinished-untouched}
@@ -229,7 +229,7 @@ module _ (cells operations schedule answers log : List ℕ) where
     log-after k = ap (λ (r : Result). logOf r) (rules k) ∙ written-log (called k) (passed k) (take k schedule) answers log
 
     accepted-call-is : AcceptedCall cells operations schedule answers log (runResult cells operations schedule answers log)
-    unfolding acceptedResult
+    unfolding acceptedResult Untouched
     accepted-call-is =
         let call = callOf cells operations schedule (length answers) (length log) in
         let ok = accepted-call call e in

@@ -22,10 +22,10 @@ pub record Placed : Type 0 where
   pub key : ℕ
   pub total : ℕ
 
-abbrev at : ℕ → ℕ → ℕ → Placed
+abbrev pub at : ℕ → ℕ → ℕ → Placed
 at n k t = record { number = n; key = k; total = t }
 
-abbrev table : ℕ → List Placed → List ℕ
+abbrev pub table : ℕ → List Placed → List ℕ
 table c [] = replicate c 0
 table c (p ∷ more) = set (table c more) (p .number) (cell (p .key) (p .total))
 
@@ -39,7 +39,7 @@ pub record Left : Type 0 where
   pub idle : ℕ
 
 -- what a run is made of
-abbrev job : List ℕ → List ℕ → List ℕ → Contents
+abbrev pub job : List ℕ → List ℕ → List ℕ → Contents
 job cells operations schedule = record { cells = cells; operations = operations; schedule = schedule }
 
 abbrev left : List ℕ → List ℕ → List ℕ → ℕ → ℕ → ℕ → Left
@@ -128,7 +128,7 @@ goneText =
     ++ text "cell 5 9 25\n"
 
 -- "Keys 1 to 8 each at home fill the table." Their totals are left open: 10 times the key here.
-abbrev fullTable : List ℕ
+abbrev pub fullTable : List ℕ
 fullTable =
     table 8 (at 4 1 10 ∷ at 1 2 20 ∷ at 6 3 30 ∷ at 3 4 40 ∷ at 0 5 50 ∷ at 5 6 60 ∷ at 2 7 70 ∷ at 7 8 80 ∷ [])
 

@@ -60,6 +60,12 @@ module _ (cells operations : List ℕ) where
       → CellsSuffice (settingOf cells) (cellsOf cells) (operationsOf operations)
       → (k : ℕ) → lookup k (cellsOf (r .cells)) ≡ expected (settingOf cells) (cellsOf cells) (operationsOf operations) k
 
+-- "An unfinished operation has changed no cell", where `after k` is what k entries of the schedule have come to: if n entries have left the
+-- operation unfinished that entry k before them names, that entry left every cell as it was.
+unfoldable pub Untouched : List ℕ → (ℕ → Result) → Type 0
+Untouched schedule after =
+    (n k : ℕ) → k < n → k < length schedule → occurs (getD schedule k 0) (logOf (after n)) ≡ 0 → after (k + 1) .cells ≡ after k .cells
+
 module _ (cells operations schedule answers log : List ℕ) where
   -- what the first k entries come to: the result of a call with those alone. With k the schedule's length, or more, it is that of all.
   abbrev pub afterEntries : ℕ → Result
@@ -71,10 +77,7 @@ module _ (cells operations schedule answers log : List ℕ) where
     -- accepted too, and leaves what the rules have come to after that many entries
     pub rules : (k : ℕ) → afterEntries k ≡ acceptedResult (machine cells operations (take k schedule)) answers log
     pub linearizable : (k : ℕ) → Linearizable cells operations (afterEntries k)
-    -- "An unfinished operation has changed no cell": where n entries have left the operation unfinished that entry k before them names,
-    -- that entry left every cell as it was
-    pub untouched : (n k : ℕ) → k < n → k < length schedule → occurs (getD schedule k 0) (logOf (afterEntries n)) ≡ 0
-        → afterEntries (k + 1) .cells ≡ afterEntries k .cells
+    pub untouched : Untouched schedule afterEntries
     pub totals : TotalsKept cells operations r
 
   -- All that a run promises of a call with these slices and its result r.

@@ -1,0 +1,217 @@
+-- What the clauses of the demands rule out: for each of them a result that is wrong in one respect, of which the clause is false. Were a
+-- clause loosened so that such a result passes, its line here would fail.
+-- Assumes nothing.
+use mathlib.Core.Path.{_≡_, refl, ap}
+use Prim.Native.Nat.{ℕ, zero, suc, _<_, _≤_}
+use mathlib.Core.Bool.{Bool, true, false, not}
+use mathlib.Core.List.{List, [], _∷_}
+use mathlib.Core.Option.{Option, none, some}
+use native.Mathlib.Omega.{arith}
+use lib.Dec.{T, eqb, lit≤}
+use lib.ListN.{getD, length, replicate}
+use Rattle.semantics.specs.Basics as Basics
+use Rattle.semantics.specs.declared.Outcome.{Outcome}
+use Rattle.semantics.specs.Totals as Totals
+use Rattle.semantics.specs.Totals.{Total, narrow}
+use Rattle.semantics.specs.Cells.{lookup}
+use Rattle.semantics.specs.Map as Map
+use Rattle.semantics.specs.TotalsRule as TotalsRule
+use Rattle.semantics.specs.Words.{cellWord as cell, operationWord as operation, packedAnswer as answer}
+use Rattle.semantics.specs.Run.{Result, runResult, madeOutcome, refusedOutcome}
+use Rattle.semantics.specs.Demands.{settingOf, cellsOf, operationsOf, replayOf, Linearizable, TotalsKept, Untouched, Demands}
+use Rattle.semantics.specs.Cases.{table, at, job, resultOf, fullTable}
+use Rattle.semantics.proofs.Booleans.{eq→eqb}
+use Rattle.semantics.proofs.Cases.{computed}
+
+-- every definition that the map and the totals rule compute with, beside those that a run does
+unfoldable replayed : Unit {0}
+unfolding
+    computed replayOf Basics.occurs Totals.amounts Totals.anySaturated Totals.sumAt
+    Map.withPair Map.unchanged Map.replaced Map.mapOf Map.stored Map.perform Map.performed Map.noted Map.replayOne Map.replay
+    TotalsRule.amountsAdded TotalsRule.expectedFrom TotalsRule.expected TotalsKept Untouched
+replayed = tt
+
+-- two numbers that are not equal
+differ : {a b : ℕ} → a ≡ b → T (not (eqb a b)) → ⊥
+differ {a} {b} e d = go (eqb a b) (eq→eqb a b e) d
+  where
+    go : (z : Bool) → T z → T (not z) → ⊥
+    go true t u = u
+    go false t u = t
+
+amount : Option Total → ℕ
+amount none = 0
+amount (some t) = t .amount
+
+-- The document's fifth case: two adds to room 1 race, and the second loses its swap once.
+abbrev start : List ℕ
+start = table 8 (at 4 1 40 ∷ [])
+
+abbrev adds : List ℕ
+adds = operation 4 1 5 ∷ operation 4 1 7 ∷ []
+
+abbrev racing : List ℕ
+racing = 0 ∷ 1 ∷ 0 ∷ 1 ∷ 1 ∷ 1 ∷ []
+
+abbrev slices : List ℕ
+slices = 9 ∷ 9 ∷ []
+
+abbrev left : List ℕ → List ℕ → List ℕ → ℕ → Result
+left cells answers log done = record { outcome = madeOutcome done 1 0; cells = cells; answers = answers; log = log }
+
+abbrev added : List ℕ
+added = table 8 (at 4 1 52 ∷ [])
+
+abbrev both : List ℕ
+both = answer 4 40 ∷ answer 4 45 ∷ []
+
+-- what it leaves is right
+right : runResult start adds racing slices slices ≡ left added both (0 ∷ 1 ∷ []) 2
+unfolding computed
+right = refl
+
+-- Demand 2, clause by clause.
+-- "Each finished answer .. [is] of a one-at-a-time map doing the finished operations in log order": another old total, another code, and the log
+-- the other way round
+an-old-total : Linearizable start adds (left added (answer 4 40 ∷ answer 4 40 ∷ []) (0 ∷ 1 ∷ []) 2) → ⊥
+unfolding replayed
+an-old-total h = differ (ap (λ l. getD l 1 0) (h .answers)) tt
+
+another-code : Linearizable start adds (left added (answer 4 40 ∷ answer 1 45 ∷ []) (0 ∷ 1 ∷ []) 2) → ⊥
+unfolding replayed
+another-code h = differ (ap (λ l. getD l 1 0) (h .answers)) tt
+
+another-order : Linearizable start adds (left added both (1 ∷ 0 ∷ []) 2) → ⊥
+unfolding replayed
+another-order h = differ (ap (λ l. getD l 0 0) (h .answers)) tt
+
+-- "and the live pairs": another total, and a room that is there twice over or not at all
+another-total : Linearizable start adds (left (table 8 (at 4 1 51 ∷ [])) both (0 ∷ 1 ∷ []) 2) → ⊥
+unfolding replayed amount
+another-total h = differ (ap amount (h .pairs 1)) tt
+
+a-room-gone : Linearizable start adds (left (table 8 (at 4 65535 0 ∷ [])) both (0 ∷ 1 ∷ []) 2) → ⊥
+unfolding replayed amount
+a-room-gone h = differ (ap amount (h .pairs 1)) tt
+
+a-room-made : Linearizable start adds (left (table 8 (at 4 1 52 ∷ at 5 9 7 ∷ [])) both (0 ∷ 1 ∷ []) 2) → ⊥
+unfolding replayed amount
+a-room-made h = differ (ap amount (h .pairs 9)) tt
+
+-- the used cells: a tombstone that no remove has left
+a-tombstone-more : Linearizable start adds (left (table 8 (at 4 1 52 ∷ at 5 65535 0 ∷ [])) both (0 ∷ 1 ∷ []) 2) → ⊥
+unfolding replayed
+a-tombstone-more h = differ (h .used) tt
+
+-- the log: a row that is not there, a row twice, a row that has an answer and is not in it
+no-such-row : Linearizable start adds (record { outcome = madeOutcome 3 1 0; cells = added; answers = both; log = 0 ∷ 1 ∷ 2 ∷ [] }) → ⊥
+unfolding replayed
+no-such-row h = let b : 2 < 2 = h .named 2 (lit≤ tt) in omega arith
+
+a-row-twice : Linearizable start adds (record { outcome = madeOutcome 3 1 0; cells = added; answers = both; log = 0 ∷ 1 ∷ 1 ∷ [] }) → ⊥
+unfolding replayed
+a-row-twice h = let b : 2 ≤ 1 = h .once 1 in omega arith
+
+answered-and-not-logged : Linearizable start adds (left (table 8 (at 4 1 45 ∷ [])) both (0 ∷ 9 ∷ []) 1) → ⊥
+unfolding replayed
+answered-and-not-logged h = differ (h .unfinished 1 (lit≤ tt) refl) tt
+
+-- "No room has two live cells."
+two-live-cells : Linearizable start adds (left (table 8 (at 4 1 52 ∷ at 5 1 52 ∷ [])) both (0 ∷ 1 ∷ []) 2) → ⊥
+unfolding replayed
+two-live-cells h = differ (h .distinct 1 4 5 (narrow 52) (narrow 52) refl refl) tt
+
+-- "An unfinished operation has changed no cell." What k entries come to, from a list
+abbrev each : List Result → Result → ℕ → Result
+each l end k = getD l k end
+
+abbrev with-total : ℕ → List ℕ → ℕ → Result
+with-total t log done = left (table 8 (at 4 1 t ∷ [])) (answer 0 0 ∷ answer 0 0 ∷ []) log done
+
+-- the second add loses its swap at the last entry, and has stored its sum all the same
+a-lost-swap-stores : Untouched (0 ∷ 1 ∷ 0 ∷ 1 ∷ [])
+    (each (with-total 40 [] 0 ∷ with-total 40 [] 0 ∷ with-total 40 [] 0 ∷ with-total 45 (0 ∷ []) 1 ∷ []) (with-total 47 (0 ∷ []) 1)) → ⊥
+unfolding replayed
+a-lost-swap-stores h = differ (ap (λ l. getD l 4 0) (h 4 3 (lit≤ tt) (lit≤ tt) refl)) tt
+
+-- the first add reads and is never finished, and has stored something at its one entry, while the second finishes at the last
+a-read-stores : Untouched (0 ∷ 1 ∷ 1 ∷ [])
+    (each (with-total 40 [] 0 ∷ with-total 45 [] 0 ∷ with-total 45 [] 0 ∷ []) (with-total 52 (1 ∷ []) 1)) → ⊥
+unfolding replayed
+a-read-stores h = differ (ap (λ l. getD l 4 0) (h 3 0 (lit≤ tt) (lit≤ tt) refl)) tt
+
+-- Demand 3: a total that is one too small; a sum that wraps; a room that is not there, and one that nobody added to
+a-total-too-small : TotalsKept start adds (left (table 8 (at 4 1 51 ∷ [])) both (0 ∷ 1 ∷ []) 2) → ⊥
+unfolding replayed amount
+a-total-too-small h = differ (ap amount (h tt refl (lit≤ tt) 1)) tt
+
+abbrev to-the-ceiling : List ℕ
+to-the-ceiling = operation 4 1 40 ∷ operation 4 1 65500 ∷ []
+
+a-sum-that-wraps : TotalsKept (table 8 []) to-the-ceiling (left (table 8 (at 4 1 4 ∷ [])) (answer 2 0 ∷ answer 4 40 ∷ []) (0 ∷ 1 ∷ []) 2) → ⊥
+unfolding replayed amount
+a-sum-that-wraps h = differ (ap amount (h tt refl (lit≤ tt) 1)) tt
+
+a-room-not-there : TotalsKept (table 8 []) to-the-ceiling (left (table 8 []) (answer 2 0 ∷ answer 4 40 ∷ []) (0 ∷ 1 ∷ []) 2) → ⊥
+unfolding replayed amount
+a-room-not-there h = differ (ap amount (h tt refl (lit≤ tt) 1)) tt
+
+a-room-nobody-added : TotalsKept start adds (left (table 8 (at 4 1 52 ∷ at 5 9 7 ∷ [])) both (0 ∷ 1 ∷ []) 2) → ⊥
+unfolding replayed amount
+a-room-nobody-added h = differ (ap amount (h tt refl (lit≤ tt) 9)) tt
+
+-- and each of its hypotheses is needed: a run that meets the other two, and of which the sums are false
+abbrev Sums : List ℕ → List ℕ → Result → Type 0
+Sums cells operations r =
+    (k : ℕ) → lookup k (cellsOf (r .cells)) ≡ TotalsRule.expected (settingOf cells) (cellsOf cells) (operationsOf operations) k
+
+-- not only finds and adds: an update
+an-update : (resultOf (job start (operation 3 1 5 ∷ []) (0 ∷ 0 ∷ [])) .outcome .done ≡ 1)
+    × TotalsRule.CellsSuffice (settingOf start) (cellsOf start) (operationsOf (operation 3 1 5 ∷ []))
+    × (Sums start (operation 3 1 5 ∷ []) (resultOf (job start (operation 3 1 5 ∷ []) (0 ∷ 0 ∷ []))) → ⊥)
+unfolding replayed amount
+an-update = (refl, lit≤ tt, λ h. differ (ap amount (h 1)) tt)
+
+-- not every operation finished: an add that has read and not swapped
+an-unfinished-add : T (TotalsRule.onlyFindsAndAdds (operationsOf (operation 4 1 5 ∷ [])))
+    × TotalsRule.CellsSuffice (settingOf start) (cellsOf start) (operationsOf (operation 4 1 5 ∷ []))
+    × (Sums start (operation 4 1 5 ∷ []) (resultOf (job start (operation 4 1 5 ∷ []) (0 ∷ []))) → ⊥)
+unfolding replayed amount
+an-unfinished-add = (tt, lit≤ tt, λ h. differ (ap amount (h 1)) tt)
+
+-- cells that do not suffice: an add to a full table
+a-full-table : T (TotalsRule.onlyFindsAndAdds (operationsOf (operation 4 9 1 ∷ [])))
+    × (resultOf (job fullTable (operation 4 9 1 ∷ []) (replicate 8 0)) .outcome .done ≡ 1)
+    × (Sums fullTable (operation 4 9 1 ∷ []) (resultOf (job fullTable (operation 4 9 1 ∷ []) (replicate 8 0))) → ⊥)
+unfolding replayed amount
+a-full-table = (tt, refl, λ h. differ (ap amount (h 9)) tt)
+
+-- Demand 1, and that the result is the one that the rules determine: a count that is made up; a refusal at another place, with another number,
+-- or that has altered a slice
+abbrev twice : List ℕ
+twice = table 8 (at 4 1 40 ∷ at 5 1 40 ∷ [])
+
+abbrev turned-away : ℕ → ℕ → List ℕ → Result
+turned-away number place answers =
+    record { outcome = refusedOutcome number place; cells = twice; answers = answers; log = slices }
+
+refused-right : runResult twice adds racing slices slices ≡ turned-away 7 5 slices
+unfolding computed
+refused-right = refl
+
+a-count-made-up : Demands start adds racing slices slices
+    (record { outcome = madeOutcome 2 0 0; cells = added; answers = both; log = 0 ∷ 1 ∷ [] }) → ⊥
+unfolding replayed
+a-count-made-up h = differ (ap (λ r. r .outcome .lost) (h .result)) tt
+
+another-place : Demands twice adds racing slices slices (turned-away 7 4 slices) → ⊥
+unfolding replayed
+another-place h = differ (ap (λ r. r .outcome .place) (h .refused (λ e. differ e tt))) tt
+
+another-number : Demands twice adds racing slices slices (turned-away 8 5 slices) → ⊥
+unfolding replayed
+another-number h = differ (ap (λ r. r .outcome .number) (h .refused (λ e. differ e tt))) tt
+
+a-slice-altered : Demands twice adds racing slices slices (turned-away 7 5 (0 ∷ 0 ∷ [])) → ⊥
+unfolding replayed
+a-slice-altered h = differ (ap (λ r. getD (r .answers) 0 0) (h .refused (λ e. differ e tt))) tt
