@@ -40,7 +40,7 @@ unfolding over
 take-over written old = take-at written (drop (length written) old) (length written) refl
 
 -- the parts of the slices that the reader wrote
-abbrev pub parts : Reading → Contents
+abbrev parts : Reading → Contents
 parts left =
     record {
       cells = take (left .loaded .cells) (left .cells);
@@ -87,7 +87,7 @@ module _ (file : List ℕ) where
 
 -- a text that was handed over: its bytes are inside the slice, and one that fits is not refused
 module _ (bytes out : List ℕ) where
-  unfoldable pub Hands : Handed → Type 0
+  unfoldable Hands : Handed → Type 0
   Hands h = (length bytes ≤ length out → h .written .number ≡ 0) × Counts (h .written .length) (h .out)
 
   hands : Hands (handed bytes out)

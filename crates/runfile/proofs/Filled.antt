@@ -79,7 +79,7 @@ module _ {s₀ : Contents} {p : Position} {h s : Contents} (room : Room s₀) (k
   )
 
   -- one record more
-  pub holds-next : (file : List ℕ) (m : Mark) → Sound file p m → Holds s₀ (past file p m) (loaded file (p .at) m h) (stored file p m s)
+  holds-next : (file : List ℕ) (m : Mark) → Sound file p m → Holds s₀ (past file p m) (loaded file (p .at) m h) (stored file p m s)
   unfolding past loaded stored partOf sizeOf
   holds-next file Table ok =
       let n = 2 ^ byteAt file (p .at + 2) in

@@ -71,7 +71,7 @@ unfolding firstMet
 met-none = refl
 
 -- tables of the same numbers, met alike, decide by the same number, whatever the places
-abbrev pub Alike : List Condition → List Condition → Type 0
+abbrev Alike : List Condition → List Condition → Type 0
 Alike [] [] = Unit
 Alike [] (d ∷ ds) = ⊥
 Alike (c ∷ cs) [] = ⊥

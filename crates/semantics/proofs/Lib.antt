@@ -4,6 +4,7 @@ pub mod Over
 pub mod Counts
 pub mod Laws
 pub mod Table
+pub mod Sights
 pub mod Steps
 pub mod Entries
 pub mod Linearizability

@@ -35,7 +35,7 @@ module _ (ceiling : ℕ) where
       (same-test _ _ (omega compared) (omega compared))
 
   -- what is held, and then held again with more, is held once with all of it
-  pub held-again : (n m : ℕ) (p q : Bool)
+  held-again : (n m : ℕ) (p q : Bool)
       → heldAt ceiling (heldAt ceiling n p .amount + m) (heldAt ceiling n p .saturated || q) ≡ heldAt ceiling (n + m) (p || q)
   unfolding heldAt
   held-again n m p q =
@@ -43,21 +43,21 @@ module _ (ceiling : ℕ) where
       let f = reached-again n m p q in
       λ i. record { amount = e i; saturated = f i }
 
-  pub plus-comm : (t u : Total) → plusAt ceiling t u ≡ plusAt ceiling u t
+  plus-comm : (t u : Total) → plusAt ceiling t u ≡ plusAt ceiling u t
   unfolding plusAt
   plus-comm t u = ap₂ (heldAt ceiling) (omega arith) (or-comm (t .saturated) (u .saturated))
 
-  pub plus-assoc : (t u v : Total) → plusAt ceiling (plusAt ceiling t u) v ≡ plusAt ceiling t (plusAt ceiling u v)
+  plus-assoc : (t u v : Total) → plusAt ceiling (plusAt ceiling t u) v ≡ plusAt ceiling t (plusAt ceiling u v)
   unfolding plusAt
   plus-assoc t u v =
       rw (plus-comm t (plusAt ceiling u v))
       (simp held-again (ap₂ (heldAt ceiling) (omega arith) (or-assoc (t .saturated) (u .saturated) (v .saturated) ∙ or-comm (t .saturated) (u .saturated || v .saturated))))
 
-  pub sum-none : (t : Total) → sumAt ceiling t [] ≡ t
+  sum-none : (t : Total) → sumAt ceiling t [] ≡ t
   unfolding sumAt
   sum-none t = refl
 
-  pub sum-more : (t a : Total) (more : List Total) → sumAt ceiling t (a ∷ more) ≡ sumAt ceiling (plusAt ceiling t a) more
+  sum-more : (t a : Total) (more : List Total) → sumAt ceiling t (a ∷ more) ≡ sumAt ceiling (plusAt ceiling t a) more
   unfolding sumAt plusAt amounts anySaturated anyOf
   sum-more t a [] = ap₂ (heldAt ceiling) (omega arith) (rw or-false)
   sum-more t a (b ∷ more) = simp (held-again, or-assoc, add-assoc)
@@ -99,11 +99,11 @@ share-below j r x e h =
     let part : 65536 / 2 ^ j ≡ 2 ^ r = ap (λ n. n / 2 ^ j) whole ∙ mul-div-cancel-left (2 ^ r) (pow-pos j) in
     rw part (shr-lt j r (subst (λ n. x < 2 ^ n) (sym e) h))
 
-pub home-below : (j r k : ℕ) → j + r ≡ 16 → homeIn (2 ^ j) k < 2 ^ j
+home-below : (j r k : ℕ) → j + r ≡ 16 → homeIn (2 ^ j) k < 2 ^ j
 unfolding homeIn
 home-below j r k e = share-below j r _ e (omega arith)
 
-pub narrow-lawful : (c : ℕ) → T (isPowerFrom 0 14 c) → Lawful (narrowSetting c)
+narrow-lawful : (c : ℕ) → T (isPowerFrom 0 14 c) → Lawful (narrowSetting c)
 narrow-lawful c h =
     let p = power 0 14 c h in
     record {
@@ -129,7 +129,7 @@ one-lower : (k n c : ℕ) → T (isPowerFrom (suc k) n c) → T (isPowerFrom k (
 unfolding isPowerFrom
 one-lower k n c = right (eqb c (2 ^ k)) (isPowerFrom (suc k) n c)
 
-pub allowed-power : (c : ℕ) → T (sizeAllowed c) → T (isPowerFrom 0 14 c)
+allowed-power : (c : ℕ) → T (sizeAllowed c) → T (isPowerFrom 0 14 c)
 unfolding sizeAllowed
 allowed-power c h = one-lower 0 13 c (one-lower 1 12 c (one-lower 2 11 c (one-more 3 10 c h)))
 

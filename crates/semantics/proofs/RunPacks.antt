@@ -21,18 +21,8 @@ use Rattle.semantics.proofs.Lists.{elem-set-all, elem-map-all, set-ever
 use Rattle.semantics.proofs.Booleans.{true-T, same-cell-sound}
 use Rattle.semantics.proofs.Entries.{by-entry, by-run}
 use Rattle.semantics.proofs.Narrow.{same-total-sound}
+use Rattle.semantics.proofs.Sights.{own-cell}
 use Rattle.semantics.proofs.Words.{Packed, Packs, new-packs}
-
--- a cell in which an operation of key k sees its own key
-sight-live : (k : ℕ) (x : Cell Total) (t : Total) → sight k x ≡ own t → x ≡ live k t
-unfolding sight
-sight-live k empty t e = cc
-sight-live k tombstone t e = cc
-sight-live k (live j u) t e = go (eqb k j) refl e
-  where
-    go : (z : Bool) → eqb k j ≡ z → cond z (own u) other ≡ own t → live j u ≡ live k t
-    go true q f = let p = eqb-true k j q in cc
-    go false q f = cc
 
 -- where an operation of key k stands in c cells: while it is unfinished, fewer than c cells are passed, and what it holds can be packed
 abbrev pub Stands : ℕ → ℕ → State Total → Type 0
@@ -89,7 +79,7 @@ module _ (c : ℕ) where
   step-stands : (o : Operation Total) (s : Pending Total) (x : Cell Total) → Stands c (o .key) (pending s) → Packs x
       → Stands c (o .key) (after (passed S s) (step S o s x .turn))
   unfolding step swapped passed after
-  step-stands o (reading p) x b h = read-stands o p (sight (o .key) x) b (λ t e. subst Packs (sight-live (o .key) x t e) h)
+  step-stands o (reading p) x b h = read-stands o p (sight (o .key) x) b (λ t e. subst Packs (own-cell (o .key) x t e) h)
   step-stands o (holding p w) x b h = go (sameCell S x (heldCell S (o .key) w))
     where
       go : (z : Bool) → Stands c (o .key) (after p (swapped S o w x z .turn))

@@ -16,7 +16,7 @@ pub record Searched (from end : ℕ) (test : ℕ → Bool) (r : ℕ) : Type 0 wh
   pub before : (j : ℕ) → from ≤ j → j < r → test j ≡ false
   pub hit : r < end → test r ≡ true
 
-pub searched : (n i : ℕ) (test : ℕ → Bool) → Searched i (i + n) test (firstFrom n i test)
+searched : (n i : ℕ) (test : ℕ → Bool) → Searched i (i + n) test (firstFrom n i test)
 unfolding firstFrom
 searched zero i test = record { low = omega arith; high = omega arith; before = λ j a b. absurd (omega arith); hit = λ b. absurd (omega arith) }
 searched (suc n) i test = go (test i) refl (searched n (suc i) test)
@@ -49,7 +49,7 @@ module _ (n : ℕ) (test : ℕ → Bool) where
       go true f = refl
       go false f = let g = none-below f i b in cc
 
-  pub found-below : someBelow n test ≡ true → test (firstBelow n test) ≡ true
+  found-below : someBelow n test ≡ true → test (firstBelow n test) ≡ true
   unfolding someBelow
   found-below e = first-below .hit (ltb-true (firstBelow n test) n e)
 

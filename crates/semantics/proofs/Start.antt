@@ -64,7 +64,7 @@ accepted-call call e =
     }
 
 -- what holds of the default and of each element holds at every index
-pub everywhere : {A : Type 0} (P : A → Type 0) (d : A) → P d → (xs : List A) → ((i : ℕ) → i < length xs → P (getD xs i d)) → (i : ℕ) → P (getD xs i d)
+everywhere : {A : Type 0} (P : A → Type 0) (d : A) → P d → (xs : List A) → ((i : ℕ) → i < length xs → P (getD xs i d)) → (i : ℕ) → P (getD xs i d)
 everywhere P d z [] h i = z
 everywhere P d z (x ∷ xs) h zero = h 0 (omega arith)
 everywhere P d z (x ∷ xs) h (suc i) = everywhere P d z xs (λ j b. h (suc j) (suc-le-suc b)) i
@@ -88,11 +88,11 @@ ReachedAt call k i =
     (d : ℕ) × (d < S .size) × (placeOf S k d ≡ i) × ((e : ℕ) → e < d → isEmpty (cellAt call (placeOf S k e)) ≡ false)
 
 module _ (call : Call) (p : Passed call) where
-  pub decoded : (i : ℕ) → cellAt call i ≡ decode (word call i)
+  decoded : (i : ℕ) → cellAt call i ≡ decode (word call i)
   unfolding decode isLiveKey
   decoded i = List·getD-map decode (call .cells) i 0
 
-  pub allowed : (i : ℕ) → T (cellAllowed (word call i))
+  allowed : (i : ℕ) → T (cellAllowed (word call i))
   unfolding cellAllowed isLiveKey
   allowed = everywhere (λ w. T (cellAllowed w)) 0 tt (call .cells) (p .cells)
 
@@ -145,9 +145,6 @@ module _ (call : Call) (p : Passed call) where
       (λ i w e.
       let (b, q) = elem-getD (call .operations) i 0 e in
       decode-operation-packed w (subst (λ (v : ℕ). T (operationAllowed v)) q (p .operations i b)))
-
-pub accepted-start : (call : Call) → runRefusal call .number ≡ 0 → Accepted (narrowSetting (length (call .cells))) (map decode (call .cells))
-accepted-start call e = start-accepted call (accepted-call call e)
 
 -- what begins the schedule of an accepted call makes an accepted call: of all conditions only 2 and 6 look at the schedule, and with fewer
 -- entries neither is met

@@ -21,24 +21,9 @@ use Rattle.semantics.specs.Map.{Map, Done, withPair, unchanged, replaced
 use Rattle.semantics.proofs.Laws.{Lawful}
 use Rattle.semantics.proofs.Lists.{none-some}
 use Rattle.semantics.proofs.Booleans.{true-T, same-cell-sound}
+use Rattle.semantics.proofs.Sights.{Seen, seen-own, seen-free, seen-other, seen}
 use Rattle.semantics.proofs.Table.{keyed-live, keyed-other, Follows, used-set, used-below, Located, Agrees, Probed}
 use Rattle.semantics.proofs.Table.{own-pair, own-alone, missing-alone, free-lacks, passed-lacks, place-below, all-used, probed-set, has-set, lacks-set, agrees-set}
-
--- what an operation of key k sees in a cell, and what it then knows of the cell
-data Seen {T : Type 0} (k : ℕ) (x : Cell T) : Sight T → Type 0 where
-  seen-own : {t : T} → keyed k x ≡ some t → Seen k x (own t)
-  seen-free : isEmpty x ≡ true → keyed k x ≡ none → Seen k x free
-  seen-other : isEmpty x ≡ false → keyed k x ≡ none → Seen k x other
-
-seen : {T : Type 0} (k : ℕ) (x : Cell T) → Seen k x (sight k x)
-unfolding sight keyed isEmpty
-seen k empty = seen-free refl refl
-seen k tombstone = seen-other refl refl
-seen {T} k (live j t) = go (eqb k j) refl
-  where
-    go : (z : Bool) → eqb k j ≡ z → Seen k (live j t) (cond z (own t) other)
-    go true e = seen-own {t = t} (rw e)
-    go false e = seen-other refl (rw e)
 
 -- the two ways in which a swap that is won may change its cell
 follows-fill : {T : Type 0} (k : ℕ) (a : T) → Follows k empty (live k a)

@@ -12,7 +12,7 @@ use borrow.Author.Tests.{eqb-true, eqb-false, eq-eqb, ne-eqb}
 use lib.Dec.{eqb}
 use lib.ListN.{length, getD, set, length-set}
 use lib.Seq.{getD-set-same, getD-set-other}
-use Rattle.semantics.specs.Cells.{Setting, Cell, empty, live, keyed, isEmpty, usedCells, lookup}
+use Rattle.semantics.specs.Cells.{Setting, Cell, empty, tombstone, live, keyed, isEmpty, usedCells, lookup}
 use Rattle.semantics.specs.Step.{placeOf}
 use Rattle.semantics.specs.Map.{Map, withPair, mapOf}
 use Rattle.semantics.proofs.Laws.{Lawful, Accepted}
@@ -27,6 +27,17 @@ keyed-live k t = rw (eq-eqb k k refl)
 pub keyed-other : {T : Type 0} (k j : ℕ) (t : T) → (k ≡ j → ⊥) → keyed k (live j t) ≡ none
 unfolding keyed
 keyed-other k j t h = rw (ne-eqb k j h)
+
+-- a cell that has key k and total t is theirs
+pub keyed-is-live : {T : Type 0} (k : ℕ) (x : Cell T) (t : T) → keyed k x ≡ some t → x ≡ live k t
+unfolding keyed
+keyed-is-live k empty t e = cc
+keyed-is-live k tombstone t e = cc
+keyed-is-live k (live j u) t e = go (eqb k j) refl e
+  where
+    go : (b : Bool) → eqb k j ≡ b → cond b (some u) none ≡ some t → live j u ≡ live k t
+    go true o f = let p = eqb-true k j o in cc
+    go false o f = cc
 
 -- a step of an operation of key k may leave y where x was: x was empty or k's own, y is not empty, and no other key is touched
 pub record Follows {T : Type 0} (k : ℕ) (x y : Cell T) : Type 0 where
@@ -50,16 +61,16 @@ module _ {T : Type 0} (cells : List (Cell T)) where
   unfolding usedCells
   used-below i h e = count-below (λ x. not (isEmpty x)) cells i empty h (ap not e)
 
-  pub used-all : ((i : ℕ) → i < length cells → isEmpty (getD cells i empty) ≡ false) → usedCells cells ≡ length cells
+  used-all : ((i : ℕ) → i < length cells → isEmpty (getD cells i empty) ≡ false) → usedCells cells ≡ length cells
   unfolding usedCells
   used-all h = count-full (λ x. not (isEmpty x)) cells empty (λ i b. ap not (h i b))
 
 -- what a lookup finds: the key is in no cell, or in the cell whose total it gives
-pub data Looked {T : Type 0} (k : ℕ) (cells : List (Cell T)) : Option T → Type 0 where
+data Looked {T : Type 0} (k : ℕ) (cells : List (Cell T)) : Option T → Type 0 where
   nowhere : ((j : ℕ) → keyed k (getD cells j empty) ≡ none) → Looked k cells none
   somewhere : {t : T} (j : ℕ) → keyed k (getD cells j empty) ≡ some t → Looked k cells (some t)
 
-pub looked : {T : Type 0} (k : ℕ) (cells : List (Cell T)) → Looked k cells (lookup k cells)
+looked : {T : Type 0} (k : ℕ) (cells : List (Cell T)) → Looked k cells (lookup k cells)
 unfolding lookup orElse keyed
 looked k [] = nowhere (λ j. refl)
 looked {T} k (x ∷ cells) = go (keyed k x) refl (looked k cells)
@@ -165,7 +176,7 @@ module _ (S : Setting) where
     place-below k p = mod-lt (S .home k + p) size-pos
 
     -- every cell is some number of cells on from a key's home
-    pub place-onto : (k j : ℕ) → j < S .size → (d : ℕ) × (d < S .size) × (placeOf S k d ≡ j)
+    place-onto : (k j : ℕ) → j < S .size → (d : ℕ) × (d < S .size) × (placeOf S k d ≡ j)
     unfolding placeOf
     place-onto k j h =
         ((j + S .size - S .home k) % S .size, mod-lt (j + S .size - S .home k) size-pos, distance-back (S .size) (S .home k) j (L .home-below k) h)
@@ -234,7 +245,7 @@ module _ (S : Setting) where
           }
 
       -- another key stands where it stood
-      pub located-set : {i : ℕ} {o : Option (S .Total)} → (i ≡ k → ⊥) → Located cells i o → Located (set cells at y) i o
+      located-set : {i : ℕ} {o : Option (S .Total)} → (i ≡ k → ⊥) → Located cells i o → Located (set cells at y) i o
       located-set {i} ne (lacks h) = lacks (λ j. keyed-set i j ne ∙ h j)
       located-set {i} ne (has {t = t} d l e before elsewhere) =
           has d l (keyed-set i (placeOf S i d) ne ∙ e) (λ n h. filled-set (placeOf S i n) (before n h)) (λ j h. keyed-set i j ne ∙ elsewhere j h)

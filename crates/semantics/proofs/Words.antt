@@ -17,6 +17,7 @@ use Rattle.semantics.specs.Words.{isLiveKey, keyOf, totalBits, tombstone
 use Rattle.semantics.specs.Words.{kindBits, operationKey, amountBits, kindOf, kindNumber, isKind, takesAmount, operationAllowed, decodeOperation, encodeOperation, bitsAboveKind}
 use Rattle.semantics.proofs.Lists.{map-back}
 use Rattle.semantics.proofs.Booleans.{eq→eqb, same-test, passed, both, either, same-cell-refl, same-cell-sound}
+use Rattle.semantics.proofs.Table.{keyed-is-live}
 use Rattle.semantics.proofs.Narrow.{narrow-plus, same-total-refl, same-total-sound}
 
 -- a key and a total that fit into a word: those of a live cell, and those of an operation
@@ -46,24 +47,24 @@ by-sort P void gone alive w h =
     (λ z. subst P (sym (eqb→eq w tombstoneWord z)) gone)
 
 module _ (k t : ℕ) (l : T (isLiveKey k)) (b : t ≤ narrowCeiling) where
-  pub key-of : keyOf (k * 65536 + t) ≡ k
+  key-of : keyOf (k * 65536 + t) ≡ k
   key-of = omega arith
 
-  pub decode-live : decode (k * 65536 + t) ≡ live k (narrow t)
+  decode-live : decode (k * 65536 + t) ≡ live k (narrow t)
   unfolding decode
   decode-live =
       let e : totalBits (k * 65536 + t) ≡ t = omega arith in
       rw (key-of, e, passed (isLiveKey k) l)
 
-  pub live-allowed : T (cellAllowed (k * 65536 + t))
+  live-allowed : T (cellAllowed (k * 65536 + t))
   unfolding cellAllowed
   live-allowed = rw (key-of, passed (isLiveKey k) l) tt
 
-  pub narrow-packed : Packed k (narrow t)
+  narrow-packed : Packed k (narrow t)
   unfolding narrow
   narrow-packed = record { is-live = l; small = b; plain = refl }
 
-pub encode-decode : (w : ℕ) → T (cellAllowed w) → encode (decode w) ≡ w
+encode-decode : (w : ℕ) → T (cellAllowed w) → encode (decode w) ≡ w
 unfolding decode encode tombstoneWord isLiveKey narrow
 encode-decode = by-sort (λ w. encode (decode w) ≡ w) refl refl (λ k t l b. rw (decode-live k t l b))
 
@@ -83,7 +84,7 @@ encode-allowed empty p = tt
 encode-allowed tombstone p = tt
 encode-allowed (live k t) p = live-allowed k (t .amount) (p .is-live) (p .small)
 
-pub plus-packed : {k : ℕ} {t u : Total} → Packed k t → Packed k u → Packed k (plusAt narrowCeiling t u)
+plus-packed : {k : ℕ} {t u : Total} → Packed k t → Packed k u → Packed k (plusAt narrowCeiling t u)
 plus-packed {k} {t} {u} p q =
     subst (Packed k) (sym (ap₂ (plusAt narrowCeiling) (p .plain) (q .plain) ∙ narrow-plus (t .amount) (u .amount)))
     (narrow-packed k (min (t .amount + u .amount) narrowCeiling) (p .is-live) (omega arith))
@@ -171,7 +172,7 @@ decode-encode-operation o p =
     λ i. record { kind = kind i; key = key i; amount = total i }
 
 -- the words are equal where the cells are
-pub decode-injective : (a b : ℕ) → T (cellAllowed a) → T (cellAllowed b) → decode a ≡ decode b → a ≡ b
+decode-injective : (a b : ℕ) → T (cellAllowed a) → T (cellAllowed b) → decode a ≡ decode b → a ≡ b
 decode-injective a b p q e = sym (encode-decode a p) ∙ ap encode e ∙ encode-decode b q
 
 pub same-words : (c a b : ℕ) → T (cellAllowed a) → T (cellAllowed b) → sameCell (narrowSetting c) (decode a) (decode b) ≡ eqb a b
@@ -186,17 +187,7 @@ decode-empty =
     by-sort (λ w. isEmpty (decode w) ≡ eqb w 0) refl refl
     (λ k t l b. rw (decode-live k t l b) (sym (ne-eqb (k * 65536 + t) 0 (omega (arith, live-bounds k l)))))
 
--- a cell that has key k and total t is theirs, and so is its word
-pub keyed-is-live : {T : Type 0} (k : ℕ) (x : Cell T) (t : T) → keyed k x ≡ some t → x ≡ live k t
-unfolding keyed
-keyed-is-live k empty t e = cc
-keyed-is-live k tombstone t e = cc
-keyed-is-live k (live j u) t e = go (eqb k j) refl e
-  where
-    go : (b : Bool) → eqb k j ≡ b → cond b (some u) none ≡ some t → live j u ≡ live k t
-    go true o f = let p = eqb-true k j o in cc
-    go false o f = cc
-
+-- a word whose cell has key k and total t is theirs
 pub decode-keyed : (k w : ℕ) (t : Total) → T (cellAllowed w) → keyed k (decode w) ≡ some t → Packed k t × (w ≡ k * 65536 + t .amount)
 unfolding encode
 decode-keyed k w t h e =

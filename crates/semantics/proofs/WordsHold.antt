@@ -87,7 +87,7 @@ module _ (call : Call) (ok : Passed call) where
   abbrev ops : List (Operation Total)
   ops = map decodeOperation (call .operations)
 
-  abbrev pub after : List ℕ → Machine Total
+  abbrev after : List ℕ → Machine Total
   after schedule = machine (call .cells) (call .operations) schedule
 
   pub lin : (schedule : List ℕ) → Linearized S start ops (after schedule)
@@ -109,7 +109,7 @@ module _ (call : Call) (ok : Passed call) where
       (ap (λ (m : Machine Total). occurs i (m .log)) (sym (foldl-append (entry S) (begin S start ops) entries (i ∷ later))) ∙ e)
 
   -- the same by numbers: entry k, after n entries
-  pub untouched-after : (schedule : List ℕ) (n k : ℕ) → k < n → k < length schedule → occurs (getD schedule k 0) (after (take n schedule) .log) ≡ 0
+  untouched-after : (schedule : List ℕ) (n k : ℕ) → k < n → k < length schedule → occurs (getD schedule k 0) (after (take n schedule) .log) ≡ 0
       → after (take (k + 1) schedule) .cells ≡ after (take k schedule) .cells
   untouched-after schedule n k h b e =
       let i = getD schedule k 0 in

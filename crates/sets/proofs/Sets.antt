@@ -67,7 +67,7 @@ or-bit s (suc i) z e = step z (or-bit (s / 2) i z (sym (in-half s i) ∙ e))
 
 module _ (s i : ℕ) (below : i < 64) where
   -- what `including` computes to at a place
-  pub including-place : including s i ≡ cond (isIn s i) s (s + 2 ^ i)
+  including-place : including s i ≡ cond (isIn s i) s (s + 2 ^ i)
   unfolding including
   including-place = go (isIn s i)
     where

@@ -13,36 +13,13 @@ use Rattle.semantics.specs.Step.{passes, Effect, Fate, stays, ends, becomes, Si
 use Rattle.semantics.specs.Step.{sight, makes, effect, readOwn, read, exhausted, bounded, heldCell, newCell, fateCell, swapAnswer, swapped, step}
 use Rattle.semantics.specs.Words.{decode, encode, decodeOperation, answerWord, carried, narrowSetting, isLiveKey, keyOf, totalBits}
 use Rattle.semantics.specs.Words.{operationKey, amountBits}
-use Rattle.semantics.proofs.Booleans.{both, passed, true-T}
+use Rattle.semantics.proofs.Booleans.{both, true-T}
+use Rattle.semantics.proofs.Sights.{sight-empty, sight-own, sight-other}
 use Rattle.rule.specs.declared.Rule.{Rule}
 use Rattle.rule.specs.Rule.{ruleIf, isStay}
 use Rattle.turn.specs.declared.Turn as declared
 use Rattle.turn.specs.declared.Turn.the-variants.{Pass, Hold, Lose, Finish}
 use Rattle.turn.specs.Turn.{turnOf, heldOf, readTurn, swapOf}
-
--- what an operation of key k sees in a word
-sight-empty : (k : ℕ) → sight k (decode 0) ≡ free
-unfolding sight decode isLiveKey
-sight-empty k = refl
-
-sight-own : (k w : ℕ) → (isLiveKey k && eqb k (keyOf w)) ≡ true → sight k (decode w) ≡ own (narrow (totalBits w))
-unfolding sight decode
-sight-own k w e =
-    let (l, q) = both (isLiveKey k) (eqb k (keyOf w)) (true-T _ e) in
-    rw (← eqb→eq k (keyOf w) q, passed (isLiveKey k) l, eq-eqb k k refl)
-
-sight-other : (k w : ℕ) → (w ≡ 0 → ⊥) → (isLiveKey k && eqb k (keyOf w)) ≡ false → sight k (decode w) ≡ other
-unfolding sight decode
-sight-other k w n e = go (isLiveKey (keyOf w)) refl
-  where
-    differ : isLiveKey (keyOf w) ≡ true → eqb k (keyOf w) ≡ false
-    differ l = ne-eqb k (keyOf w) (λ q.
-        let hit : (isLiveKey k && eqb k (keyOf w)) ≡ true = rw (q, l, eq-eqb (keyOf w) (keyOf w) refl) in
-        subst T (sym hit ∙ e) tt)
-
-    go : (b : Bool) → isLiveKey (keyOf w) ≡ b → sight k (decode w) ≡ other
-    go true l = rw (l, differ l)
-    go false l = rw (l, ne-eqb w 0 n)
 
 -- an operation that reads word w, with p cells passed
 module _ (c operation : ℕ) where

@@ -21,10 +21,10 @@ use Rattle.semantics.proofs.Searches.{none-some-below, some-more, Searching, se
 use Rattle.sets.proofs.Sets.{in-none, in-including}
 
 -- whether key k is in the set, and the set with it
-abbrev pub hasKey : List ℕ → ℕ → Bool
+abbrev hasKey : List ℕ → ℕ → Bool
 hasKey keys k = isIn (getD keys (k / 64) 0) (k % 64)
 
-abbrev pub withKey : List ℕ → ℕ → List ℕ
+abbrev withKey : List ℕ → ℕ → List ℕ
 withKey keys k = set keys (k / 64) (including (getD keys (k / 64) 0) (k % 64))
 
 has-with : (keys : List ℕ) (k j : ℕ) → k / 64 < length keys → hasKey (withKey keys k) j ≡ (eqb k j || hasKey keys j)

@@ -19,7 +19,7 @@ use Rattle.semantics.proofs.Narrow.{allowed-lawful}
 use Rattle.semantics.proofs.Searches.{first-below, some-below, none-some-below, Searching, search-starts, search-goes-on, search-finds, search-ends}
 
 -- how far cell i is from h on, of c cells; and the word of the cell that is d + 1 before cell i
-abbrev pub distance : ℕ → ℕ → ℕ → ℕ
+abbrev distance : ℕ → ℕ → ℕ → ℕ
 distance c h i = (i + c - h) % c
 
 abbrev back : List ℕ → ℕ → ℕ → ℕ
