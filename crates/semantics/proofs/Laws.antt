@@ -13,7 +13,6 @@ use Rattle.semantics.specs.Step.{placeOf}
 
 -- totals are added in any order, are the same where the test says so, and are summed one by one; each home is a cell
 pub record Lawful (S : Setting) : Type 0 where
-  pub same-refl : (t : S .Total) → T (S .same t t)
   pub same-sound : (t u : S .Total) → T (S .same t u) → t ≡ u
   pub plus-comm : (t u : S .Total) → S .plus t u ≡ S .plus u t
   pub plus-assoc : (t u v : S .Total) → S .plus (S .plus t u) v ≡ S .plus t (S .plus u v)

@@ -107,7 +107,6 @@ narrow-lawful : (c : ℕ) → T (isPowerFrom 0 14 c) → Lawful (narrowSetting c
 narrow-lawful c h =
     let p = power 0 14 c h in
     record {
-      same-refl = same-total-refl;
       same-sound = same-total-sound;
       plus-comm = plus-comm narrowCeiling;
       plus-assoc = plus-assoc narrowCeiling;
