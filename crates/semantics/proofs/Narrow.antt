@@ -57,10 +57,23 @@ module _ (ceiling : ℕ) where
   unfolding sumAt
   sum-none t = refl
 
+  -- the sum in its own words is what is held once
+  abbrev held-sum : Total → List Total → Total
+  held-sum t [] = t
+  held-sum t (a ∷ more) = heldAt ceiling (t .amount + amounts (a ∷ more)) (t .saturated || anySaturated (a ∷ more))
+
+  sum-is : (t : Total) (l : List Total) → sumAt ceiling t l ≡ held-sum t l
+  unfolding sumAt heldAt
+  sum-is t [] = refl
+  sum-is t (a ∷ more) = refl
+
+  held-more : (t a : Total) (more : List Total) → held-sum t (a ∷ more) ≡ held-sum (plusAt ceiling t a) more
+  unfolding plusAt amounts anySaturated anyOf
+  held-more t a [] = ap₂ (heldAt ceiling) (omega arith) (rw or-false)
+  held-more t a (b ∷ more) = simp (held-again, or-assoc, add-assoc)
+
   sum-more : (t a : Total) (more : List Total) → sumAt ceiling t (a ∷ more) ≡ sumAt ceiling (plusAt ceiling t a) more
-  unfolding sumAt plusAt amounts anySaturated anyOf
-  sum-more t a [] = ap₂ (heldAt ceiling) (omega arith) (rw or-false)
-  sum-more t a (b ∷ more) = simp (held-again, or-assoc, add-assoc)
+  sum-more t a more = sum-is t (a ∷ more) ∙ held-more t a more ∙ sym (sum-is (plusAt ceiling t a) more)
 
 -- a narrow total is added as its number is
 narrow-reached : (a b : ℕ) → (eqb a narrowCeiling || eqb b narrowCeiling || leb narrowCeiling (a + b)) ≡ eqb (min (a + b) narrowCeiling) narrowCeiling

@@ -27,10 +27,13 @@ amounts (t ∷ ts) = t .amount + amounts ts
 unfoldable pub anySaturated : List Total → Bool
 anySaturated ts = anyOf (λ t. t .saturated) ts
 
--- "they and the starting total are summed as whole numbers before the sum is held": a total with others added; with none it stays as it is
+-- "they and the starting total are summed as whole numbers before the sum is held": a total with others added, in words of its own beside
+-- `plusAt`; with none it stays as it is
 unfoldable pub sumAt : ℕ → Total → List Total → Total
 sumAt ceiling t [] = t
-sumAt ceiling t (a ∷ more) = heldAt ceiling (t .amount + amounts (a ∷ more)) (t .saturated || anySaturated (a ∷ more))
+sumAt ceiling t (a ∷ more) =
+    let sum = t .amount + amounts (a ∷ more) in
+    record { amount = min sum ceiling; saturated = t .saturated || anySaturated (a ∷ more) || leb ceiling sum }
 
 -- whether two totals are equal
 unfoldable pub sameTotal : Total → Total → Bool
