@@ -1,4 +1,5 @@
--- The starred cases of document 01 hold, and what demand 3 asks can be met: each by computation. Where it is met, demand 3 speaks.
+-- The cases hold, the starred ones of document 01 and the further ones, and what demand 3 asks can be met, with no cell to spare too: each
+-- by computation. Where it is met, demand 3 speaks.
 -- Assumes nothing.
 use mathlib.Core.Path.{_≡_, refl}
 use Prim.Native.Nat.{ℕ}
@@ -22,12 +23,16 @@ use Rattle.semantics.specs.RunFile.{Contents}
 use Rattle.semantics.specs.Listing as Listing
 use Rattle.semantics.specs.Response as Response
 use Rattle.semantics.proofs.WordsHold.{demands}
-use Rattle.semantics.specs.Cases.{resultOf, holds, leftBy, sameList, cases, inFull, inFullFile, inFullText, goneFile, goneText, longer, Meets}
+use Rattle.semantics.specs.Cases as Cases
+use Rattle.semantics.specs.Cases.{resultOf, holds, cases, inFull, longer, edge, Meets}
 
 -- every definition that a run computes with: to unfold `computed` is to unfold them all
 unfoldable pub computed : Unit {0}
 unfolding
-    resultOf holds leftBy sameList cases inFull inFullFile inFullText goneFile goneText longer
+    resultOf holds cases inFull longer edge
+    Cases.resultWith Cases.leftBy Cases.sameList Cases.readBy Cases.refusedBy Cases.lent Cases.lentAs Cases.readingOf
+    Cases.starred Cases.inFullFile Cases.inFullText Cases.goneFile Cases.goneText
+    Cases.furtherNumbers Cases.furtherCalls Cases.furtherFiles Cases.furtherTexts Cases.furtherRuns Cases.everyFile Cases.everyText
     Totals.heldAt Totals.plusAt Totals.narrow Totals.sameTotal
     Cells.codeOf Cells.totalOf Cells.keyed Cells.lookup Cells.isEmpty Cells.usedCells
     orElse Basics.allOf Basics.anyOf Basics.countOf Basics.isSome Basics.firstFrom Basics.firstBelow Basics.someBelow
@@ -48,6 +53,7 @@ unfolding
     RunFile.hasMark RunFile.markAt RunFile.partOf RunFile.mayFollow RunFile.sizeOf RunFile.isBodyWrong RunFile.isOneTooMany RunFile.past
     RunFile.markCut RunFile.markWrong RunFile.bodyCut RunFile.bodyWrong RunFile.oneTooMany RunFile.conditionsAt RunFile.nextOf
     RunFile.sliceTooShort RunFile.fileTooLong RunFile.readerConditions RunFile.readerRefusal RunFile.loaded RunFile.load RunFile.contents
+    RunFile.acceptedReading RunFile.refusedReading RunFile.reading
     Listing.kindWord Listing.codeWord Listing.totalText Listing.refusalText Listing.countsText Listing.operationText
     Listing.answerText Listing.rowText Listing.logText Listing.contentsText Listing.cellText Listing.runText Listing.listing
     Response.runOf Response.listed Response.response
@@ -57,9 +63,10 @@ pub covered : T (Basics.allOf holds cases)
 unfolding computed
 covered = tt
 
-pub met : Meets inFull × Meets longer
+pub met : Meets inFull × Meets longer × Meets edge
 unfolding computed
 met = (
+  record { accepted = refl; only = tt; finished = refl; suffice = lit≤ tt },
   record { accepted = refl; only = tt; finished = refl; suffice = lit≤ tt },
   record { accepted = refl; only = tt; finished = refl; suffice = lit≤ tt },
 )

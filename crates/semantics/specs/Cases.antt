@@ -1,9 +1,11 @@
--- Document 01, "Worked in the room table": its starred cases, the rows of one list. proofs/Cases.antt covers them by one claim, that each
--- holds; and it shows two runs of which all that demand 3 asks is true.
--- Tables have 8 cells where no other number stands. Slices for answers and log are as long as the operations, and hold 9 before a run.
+-- Document 01, "Worked in the room table": its starred cases, then further ones, the rows of one list. proofs/Cases.antt covers them by one
+-- claim, that each holds; and it shows three runs of which all that demand 3 asks is true.
+-- Tables have 8 cells where no other number stands. Slices for answers and log are as long as the operations where no length stands, and
+-- lent slices hold 9 before a call.
 -- Assumes nothing.
 use mathlib.Core.Path.{_≡_}
-use Prim.Native.Nat.{ℕ, zero, suc}
+use Prim.Native.String.{String}
+use Prim.Native.Nat.{ℕ, zero, suc, _+_, _-_, _^_, _/_, _%_}
 use mathlib.Core.Bool.{Bool, true, false, _&&_, Bool·beq}
 use mathlib.Core.List.{List, [], _∷_, _++_, map}
 use lib.Dec.{T, eqb}
@@ -13,7 +15,10 @@ use Rattle.semantics.specs.TotalsRule.{onlyFindsAndAdds, CellsSuffice}
 use Rattle.semantics.specs.Words.{cellWord as cell, operationWord as operation, packedAnswer as answer, roomHome, roomSum, decode, decodeOperation, narrowSetting}
 use Rattle.semantics.specs.Run.{Result, runResult}
 use Rattle.semantics.specs.Text.{text}
-use Rattle.semantics.specs.RunFile.{Contents}
+use Rattle.semantics.specs.declared.Refusal.{Refusal}
+use Rattle.semantics.specs.declared.Position.{Position}
+use Rattle.semantics.specs.Records.{faultAt}
+use Rattle.semantics.specs.RunFile.{Contents, Reading, reading, readerRefusal, runFile, nextOf}
 use Rattle.semantics.specs.Response.{response}
 
 -- c cells, empty but for those named by number, key and total
@@ -28,6 +33,27 @@ at n k t = record { number = n; key = k; total = t }
 abbrev pub table : ℕ → List Placed → List ℕ
 table c [] = replicate c 0
 table c (p ∷ more) = set (table c more) (p .number) (cell (p .key) (p .total))
+
+-- a list n times over
+abbrev rounds : ℕ → List ℕ → List ℕ
+rounds zero l = []
+rounds (suc n) l = l ++ rounds n l
+
+-- the records of a run file
+abbrev pair : ℕ → List ℕ
+pair n = n / 256 ∷ n % 256 ∷ []
+
+abbrev tableRecord : ℕ → List ℕ
+tableRecord k = text "TB" ++ (k ∷ [])
+
+abbrev cellRecord : ℕ → ℕ → ℕ → List ℕ
+cellRecord n k t = text "CL" ++ pair n ++ pair k ++ pair t
+
+abbrev operationRecord : ℕ → ℕ → ℕ → List ℕ
+operationRecord kind k amount = text "OP" ++ (kind ∷ []) ++ pair k ++ pair amount
+
+abbrev scheduleRecord : List ℕ → List ℕ
+scheduleRecord entries = text "SC" ++ (length entries ∷ entries)
 
 -- what a run leaves
 pub record Left : Type 0 where
@@ -45,10 +71,17 @@ job cells operations schedule = record { cells = cells; operations = operations;
 abbrev left : List ℕ → List ℕ → List ℕ → ℕ → ℕ → ℕ → Left
 left cells answers log done lost idle = record { cells = cells; answers = answers; log = log; done = done; lost = lost; idle = idle }
 
+abbrev nothing : Contents
+nothing = job [] [] []
+
 unfoldable pub resultOf : Contents → Result
 resultOf j =
     let slice : List ℕ = replicate (length (j .operations)) 9 in
     runResult (j .cells) (j .operations) (j .schedule) slice slice
+
+-- the same with slices for so many answers and so many log bytes
+unfoldable pub resultWith : ℕ → ℕ → Contents → Result
+resultWith answers log j = runResult (j .cells) (j .operations) (j .schedule) (replicate answers 9) (replicate log 9)
 
 pub data Case : Type 0 where
   -- the home of a key in c cells
@@ -61,6 +94,19 @@ pub data Case : Type 0 where
   refused : List ℕ → ℕ → ℕ → Case
   -- what is written for a file
   writes : List ℕ → List ℕ → Case
+  -- what a run leaves in slices for so many answers and so many log bytes
+  leavesIn : ℕ → ℕ → Contents → Left → Case
+  -- the number and the place of a refusal of any call, whose slices have room for so many answers and so many log bytes
+  turnedAway : ℕ → ℕ → Contents → ℕ → ℕ → Case
+  -- a call that is not refused, of cells and operations with no entries
+  begins : List ℕ → List ℕ → Case
+  -- what the reader makes of a file; its refusal, with slices for so many cells, operations and entries
+  reads : List ℕ → Contents → Case
+  unread : List ℕ → ℕ → ℕ → ℕ → ℕ → ℕ → Case
+  -- the number and the place of a file's refusal alone, with slices as before; 0 and 0 where the file is read
+  judgedIn : ℕ → ℕ → ℕ → List ℕ → ℕ → ℕ → Case
+  -- the number that turns away an SC record of n entries where so many came before it, and how many there are after it
+  counted : ℕ → ℕ → ℕ → ℕ → Case
 
 unfoldable pub sameList : List ℕ → List ℕ → Bool
 sameList [] [] = true
@@ -74,12 +120,48 @@ leftBy number place l r =
     && sameList (l .cells) (r .cells) && sameList (l .answers) (r .answers) && sameList (l .log) (r .log)
     && eqb (l .done) (r .outcome .done) && eqb (l .lost) (r .outcome .lost) && eqb (l .idle) (r .outcome .idle)
 
+-- a reader's result: its number and place, how many of each it wrote, and each slice
+unfoldable pub readBy : ℕ → ℕ → Contents → Contents → Reading → Bool
+readBy number place written h r =
+    eqb number (r .loaded .number) && eqb place (r .loaded .place) && eqb (length (written .cells)) (r .loaded .cells)
+    && eqb (length (written .operations)) (r .loaded .operations) && eqb (length (written .schedule)) (r .loaded .entries)
+    && sameList (h .cells) (r .cells) && sameList (h .operations) (r .operations) && sameList (h .schedule) (r .schedule)
+
+unfoldable pub refusedBy : ℕ → ℕ → Refusal → Bool
+refusedBy number place r = eqb number (r .number) && eqb place (r .place)
+
+-- n elements of a lent slice, with some written over its front
+unfoldable pub lent : ℕ → List ℕ → List ℕ
+lent n written = written ++ replicate (n - length written) 9
+
+unfoldable pub lentAs : ℕ → ℕ → ℕ → Contents → Contents
+lentAs cells operations entries h =
+    job (lent cells (h .cells)) (lent operations (h .operations)) (lent entries (h .schedule))
+
+unfoldable pub readingOf : List ℕ → Contents → Reading
+readingOf file slices = reading file (slices .cells) (slices .operations) (slices .schedule)
+
 unfoldable pub holds : Case → Bool
 holds (homeIs k c h) = eqb (roomHome k c) h
 holds (sumIs a b s p) = eqb (roomSum a b) s && Bool·beq (plusAt narrowCeiling (narrow a) (narrow b) .saturated) p
 holds (leaves j l) = leftBy 0 0 l (resultOf j)
 holds (refused cells number place) = leftBy number place (left cells [] [] 0 0 0) (resultOf (job cells [] []))
 holds (writes file expected) = sameList (response file) expected
+holds (leavesIn answers log j l) = leftBy 0 0 l (resultWith answers log j)
+-- "all counts are 0 and nothing lent is altered"
+holds (turnedAway answers log j number place) =
+    leftBy number place (left (j .cells) (replicate answers 9) (replicate log 9) 0 0 0) (resultWith answers log j)
+-- "Rows without entries: all answers written as 0, no cell or log byte altered."
+holds (begins cells operations) =
+    leftBy 0 0 (left cells (replicate (length operations) 0) (replicate (length operations) 9) 0 0 0) (resultOf (job cells operations []))
+holds (reads file h) = readBy 0 0 h (lentAs 4096 64 16384 h) (readingOf file (lentAs 4096 64 16384 nothing))
+holds (unread file cells operations entries number place) =
+    readBy number place nothing (lentAs cells operations entries nothing) (readingOf file (lentAs cells operations entries nothing))
+holds (judgedIn cells operations entries file number place) = refusedBy number place (readerRefusal file cells operations entries)
+holds (counted before n number after) =
+    let file = scheduleRecord (replicate n 0) in
+    let p : Position = record { at = 0; part = 4; size = 8; lowest = 0; operations = 1; entries = before } in
+    eqb number (faultAt runFile file p) && eqb after (nextOf file p .entries)
 
 -- "A run in full": OP records of kind 4 and the rows of the one SC record
 unfoldable pub inFull : Contents
@@ -107,16 +189,10 @@ inFullText =
     ++ text "cell 5 9 25\n"
 
 -- the fourth case and a refused one as files: "a tombstone as `cell 4 gone`", "A refusal is one line, `refused 8 at 5`"
-abbrev cellRecord : ℕ → ℕ → ℕ → List ℕ
-cellRecord n k t = text "CL" ++ (0 ∷ n ∷ 0 ∷ k ∷ 0 ∷ t ∷ [])
-
-abbrev operationRecord : ℕ → ℕ → ℕ → List ℕ
-operationRecord kind k amount = text "OP" ++ (kind ∷ 0 ∷ k ∷ 0 ∷ amount ∷ [])
-
 unfoldable pub goneFile : List ℕ
 goneFile =
-    text "TB" ++ (3 ∷ []) ++ cellRecord 4 1 40 ++ cellRecord 5 9 25 ++ operationRecord 5 1 0 ++ operationRecord 2 9 7 ++ text "SC"
-    ++ (4 ∷ 0 ∷ 0 ∷ 1 ∷ 1 ∷ [])
+    tableRecord 3 ++ cellRecord 4 1 40 ++ cellRecord 5 9 25 ++ operationRecord 5 1 0 ++ operationRecord 2 9 7
+    ++ scheduleRecord (0 ∷ 0 ∷ 1 ∷ 1 ∷ [])
 
 unfoldable pub goneText : List ℕ
 goneText =
@@ -132,8 +208,9 @@ abbrev pub fullTable : List ℕ
 fullTable =
     table 8 (at 4 1 10 ∷ at 1 2 20 ∷ at 6 3 30 ∷ at 3 4 40 ∷ at 0 5 50 ∷ at 5 6 60 ∷ at 2 7 70 ∷ at 7 8 80 ∷ [])
 
-unfoldable pub cases : List Case
-cases =
+-- the starred cases
+unfoldable pub starred : List Case
+starred =
     -- "Homes in 8 cells: keys 1, 9 and 17 at 4; 2 and 10 at 1; 5 at 0; 8 and 16 at 7."
     homeIs 1 8 4 ∷ homeIs 9 8 4 ∷ homeIs 17 8 4 ∷ homeIs 2 8 1 ∷ homeIs 10 8 1 ∷ homeIs 5 8 0 ∷ homeIs 8 8 7 ∷ homeIs 16 8 7
     -- "65,534 + 0 is true; 65,534 + 1 and 65,535 + 0 are pinned."
@@ -162,18 +239,226 @@ cases =
     -- "Cell 4 empty, cell 5 = (9, 25): refused 8 at 5. Key 1 in cells 4 and 5: refused 7 at 5."
     ∷ refused (table 8 (at 5 9 25 ∷ [])) 8 5
     ∷ refused (table 8 (at 4 1 40 ∷ at 5 1 40 ∷ [])) 7 5
-    ∷ writes (text "TB" ++ (3 ∷ []) ++ cellRecord 5 9 25) (text "refused 8 at 5\n")
+    ∷ writes (tableRecord 3 ++ cellRecord 5 9 25) (text "refused 8 at 5\n")
     -- "4 or 12 cells: refused 1."
     ∷ refused (table 4 []) 1 0
     ∷ refused (table 12 []) 1 0
     ∷ []
 
+-- FURTHER CASES, which the document does not work out. Each stands at an edge of one of its sentences, so that a definition that says
+-- another thing there has a row against it, whatever the code does. Five lists: numbers, calls of the run, files, texts and whole runs.
+
+-- The homes are those of keys for which another modulus, or a multiplier beside 40,503, gives another home.
+unfoldable pub furtherNumbers : List Case
+furtherNumbers =
+    -- "Home of a key: (key × 40,503) mod 65,536, divided by (65,536 / c), rounded down."
+    homeIs 65534 8 6 ∷ homeIs 65534 64 48 ∷ homeIs 65534 4096 3129
+    ∷ homeIs 40000 8 0 ∷ homeIs 40000 64 4 ∷ homeIs 40000 4096 284
+    ∷ homeIs 12345 8 4 ∷ homeIs 12345 64 34 ∷ homeIs 12345 4096 2211
+    ∷ homeIs 32767 8 7 ∷ homeIs 32767 64 56 ∷ homeIs 32767 4096 3612
+    ∷ homeIs 257 16 13 ∷ homeIs 1 4096 2531
+    -- "giving 65,535 where c or the key is not allowed"
+    ∷ homeIs 0 8 65535 ∷ homeIs 65535 8 65535 ∷ homeIs 65536 8 65535
+    ∷ homeIs 1 0 65535 ∷ homeIs 1 4 65535 ∷ homeIs 1 12 65535 ∷ homeIs 1 8192 65535
+    -- "Adding two totals gives their sum, or 65,535 if the sum is larger."; "Total 65,535 is pinned"
+    ∷ sumIs 0 0 0 false ∷ sumIs 0 65534 65534 false ∷ sumIs 40 25 65 false
+    ∷ sumIs 32767 32767 65534 false ∷ sumIs 32768 32767 65535 true ∷ sumIs 32768 32768 65535 true
+    ∷ sumIs 0 65535 65535 true ∷ sumIs 65535 65535 65535 true
+    -- "The key is the upper sixteen bits of the word, the total the lower sixteen."; "kind × 2^32 + key × 65,536 + amount"; "code × 65,536 +
+    -- total"; "Key 65,535 with total 0 is a tombstone": words as numbers, in which add (1, 5) and then remove 1 change a cell
+    ∷ leaves (job (0 ∷ 0 ∷ 0 ∷ 0 ∷ 0x00010028 ∷ 0 ∷ 0 ∷ 0 ∷ []) (0x0400010005 ∷ 0x0500010000 ∷ []) (0 ∷ 0 ∷ 1 ∷ 1 ∷ []))
+    (left (0 ∷ 0 ∷ 0 ∷ 0 ∷ 0xFFFF0000 ∷ 0 ∷ 0 ∷ 0 ∷ []) (0x00040028 ∷ 0x0005002D ∷ []) (0 ∷ 1 ∷ []) 2 0 0)
+    ∷ []
+
+-- calls of the run, with slices as long as the operations
+abbrev refusedCall : List ℕ → List ℕ → List ℕ → ℕ → ℕ → Case
+refusedCall cells operations schedule =
+    turnedAway (length operations) (length operations) (job cells operations schedule)
+
+abbrev refusedRows : List ℕ → ℕ → Case
+refusedRows operations place = refusedCall (table 8 []) operations [] 5 place
+
+abbrev find1 : ℕ
+find1 = operation 1 1 0
+
+abbrev gone : ℕ → Placed
+gone n = at n 65535 0
+
+-- "Where a call is turned away", the rows of the run: each met, and just not met. Where a call that is taken would be dear to compute, one
+-- that is turned away by a later row shows that the earlier is not met.
+unfoldable pub furtherCalls : List Case
+furtherCalls =
+    -- 1: "c not allowed"
+    refused [] 1 0 ∷ refused (table 1 []) 1 0 ∷ refused (table 7 []) 1 0 ∷ refused (table 9 []) 1 0
+    ∷ refused (table 24 []) 1 0 ∷ refused (table 63 []) 1 0 ∷ refused (table 8192 []) 1 0
+    ∷ begins (table 8 []) [] ∷ begins (table 16 []) [] ∷ begins (table 32 []) [] ∷ begins (table 64 []) []
+    ∷ refusedCall (table 4096 []) (replicate 65 find1) [] 2 0
+    -- 2: "over 64 rows or 16,384 entries", these with no room for the answer
+    ∷ refusedCall (table 8 []) (replicate 65 find1) [] 2 0
+    ∷ begins (table 8 []) (replicate 64 find1)
+    ∷ turnedAway 0 0 (job (table 8 []) (find1 ∷ []) (replicate 16385 0)) 2 0
+    ∷ turnedAway 0 0 (job (table 8 []) (find1 ∷ []) (replicate 16384 0)) 3 0
+    -- 3: "answers or log shorter than the rows". Longer ones: "later elements keep their contents"
+    ∷ turnedAway 1 2 (job (table 8 []) (find1 ∷ find1 ∷ []) (0 ∷ [])) 3 0
+    ∷ turnedAway 2 1 (job (table 8 []) (find1 ∷ find1 ∷ []) (0 ∷ [])) 3 0
+    ∷ leaves (job (table 8 []) (find1 ∷ find1 ∷ []) (1 ∷ [])) (left (table 8 []) (0 ∷ answer 6 0 ∷ []) (1 ∷ 9 ∷ []) 1 0 0)
+    ∷ leavesIn 4 3 (job (table 8 []) (find1 ∷ find1 ∷ []) (1 ∷ [])) (left (table 8 []) (0 ∷ answer 6 0 ∷ 9 ∷ 9 ∷ []) (1 ∷ 9 ∷ 9 ∷ []) 1 0 0)
+    -- 4: "key 0 or 65,535 with a total other than 0", at the "first such cell"
+    ∷ refused (table 8 (at 0 0 1 ∷ [])) 4 0 ∷ refused (table 8 (at 7 0 65535 ∷ [])) 4 7
+    ∷ refused (table 8 (at 3 65535 1 ∷ [])) 4 3 ∷ refused (table 8 (at 6 0 1 ∷ at 2 65535 65535 ∷ gone 1 ∷ [])) 4 2
+    ∷ begins (table 8 (gone 3 ∷ [])) [] ∷ begins (table 8 (at 4 1 0 ∷ at 6 65534 65535 ∷ [])) []
+    -- 5: "a row not as above, or bits above the kind set", at the "first such row": kinds, keys, bits above the kind, amounts
+    ∷ refusedRows (operation 0 1 0 ∷ []) 0 ∷ refusedRows (operation 6 1 0 ∷ []) 0 ∷ refusedRows (operation 129 1 0 ∷ []) 0
+    ∷ refusedRows (operation 4 0 1 ∷ []) 0 ∷ refusedRows (operation 4 65535 1 ∷ []) 0
+    ∷ refusedRows (operation (2 ^ 8 + 1) 1 0 ∷ []) 0 ∷ refusedRows (operation (2 ^ 31 + 1) 1 0 ∷ []) 0
+    ∷ refusedRows (operation 1 1 1 ∷ []) 0 ∷ refusedRows (operation 1 1 65535 ∷ []) 0
+    ∷ refusedRows (operation 5 1 1 ∷ []) 0 ∷ refusedRows (operation 5 1 65535 ∷ []) 0
+    ∷ refusedRows (find1 ∷ operation 5 1 1 ∷ operation 0 1 0 ∷ []) 1
+    ∷ begins (table 8 []) (operation 1 1 0 ∷ operation 2 1 0 ∷ operation 3 1 0 ∷ operation 4 1 0 ∷ operation 5 65534 0 ∷ [])
+    ∷ begins (table 8 []) (operation 2 1 65535 ∷ operation 3 1 65535 ∷ operation 4 65534 65535 ∷ [])
+    -- 6: "entry not below the number of rows", at the "first such entry"
+    ∷ refusedCall (table 8 []) [] (0 ∷ []) 6 0 ∷ refusedCall (table 8 []) (find1 ∷ find1 ∷ []) (1 ∷ 0 ∷ 2 ∷ 255 ∷ []) 6 2
+    ∷ leaves (job (table 8 []) (find1 ∷ find1 ∷ []) (1 ∷ 0 ∷ [])) (left (table 8 []) (answer 6 0 ∷ answer 6 0 ∷ []) (1 ∷ 0 ∷ []) 2 0 0)
+    -- 7: "live key also in a lower cell", at the "lowest such cell": a third cell, a lower cell round the end, two keys; tombstones are not live
+    ∷ refused (table 8 (at 4 1 1 ∷ at 5 1 2 ∷ at 6 1 3 ∷ [])) 7 5 ∷ refused (table 8 (at 0 8 1 ∷ at 7 8 1 ∷ [])) 7 7
+    ∷ refused (table 8 (at 0 5 1 ∷ at 1 5 1 ∷ at 4 1 1 ∷ at 5 1 1 ∷ [])) 7 1
+    ∷ begins (table 8 (gone 4 ∷ gone 5 ∷ gone 0 ∷ [])) []
+    -- 8: "a live key's cell with an empty cell before it, counting from its home, home included", at the "lowest such live cell"; round the
+    -- end too; a tombstone is not empty, and of the cells after its own none counts
+    ∷ refused (table 8 (at 2 2 1 ∷ at 6 1 1 ∷ at 7 8 1 ∷ [])) 8 2 ∷ refused (table 8 (at 4 1 1 ∷ at 6 9 1 ∷ [])) 8 6
+    ∷ refused (table 8 (at 0 16 3 ∷ [])) 8 0 ∷ refused (table 8 (at 7 8 1 ∷ at 1 16 3 ∷ [])) 8 1
+    ∷ refused (table 8 (at 4 1 1 ∷ gone 5 ∷ gone 6 ∷ gone 0 ∷ gone 1 ∷ gone 2 ∷ at 3 9 1 ∷ [])) 8 3
+    ∷ begins (table 8 (at 4 1 1 ∷ gone 5 ∷ gone 6 ∷ gone 7 ∷ gone 0 ∷ gone 1 ∷ gone 2 ∷ at 3 9 1 ∷ [])) []
+    ∷ begins (table 8 (gone 4 ∷ at 5 9 25 ∷ at 7 8 1 ∷ at 0 16 3 ∷ [])) []
+    -- "The first condition met, in table order within each entry point, decides.": calls that meet two or more
+    ∷ refusedCall (table 12 []) (replicate 65 find1) [] 1 0
+    ∷ turnedAway 0 0 (job (table 8 []) (replicate 65 find1) []) 2 0
+    ∷ turnedAway 0 0 (job (table 8 (at 1 0 1 ∷ [])) (find1 ∷ []) []) 3 0
+    ∷ refusedCall (table 8 (at 7 0 1 ∷ [])) (operation 0 1 0 ∷ []) (1 ∷ []) 4 7
+    ∷ refusedCall (table 8 (at 4 1 1 ∷ at 5 1 1 ∷ [])) (find1 ∷ operation 1 1 1 ∷ []) (2 ∷ []) 5 1
+    ∷ refusedCall (table 8 (at 0 1 1 ∷ at 4 1 1 ∷ at 5 1 1 ∷ [])) (find1 ∷ []) (0 ∷ 0 ∷ 0 ∷ 0 ∷ 0 ∷ 1 ∷ []) 6 5
+    ∷ refused (table 8 (at 4 1 1 ∷ at 5 1 1 ∷ at 7 0 1 ∷ [])) 4 7
+    ∷ refused (table 8 (at 5 1 1 ∷ at 6 1 1 ∷ [])) 7 6
+    ∷ []
+
+-- files: how they are judged with slices just long enough, and the lines that are written for them
+abbrev judged : List ℕ → ℕ → ℕ → Case
+judged file = judgedIn 4096 64 16384 file
+
+abbrev says : List ℕ → String → Case
+says file lines = writes file (text lines)
+
+abbrev find1Record : List ℕ
+find1Record = operationRecord 1 1 0
+
+-- "Where a call is turned away", the rows of the reader, and what it makes of a file
+unfoldable pub furtherFiles : List Case
+furtherFiles =
+    -- "The reader fills lent slices for at least 4,096 cells, 64 rows and 16,384 entries, and returns how many of each it wrote; elements past
+    -- those keep their contents."; "Cells not named are empty."; "Numbers of several bytes have the high byte first."
+    reads
+    (tableRecord 4 ++ cellRecord 0 258 772 ++ cellRecord 15 65535 65535 ++ operationRecord 255 258 772 ++ find1Record
+    ++ scheduleRecord (7 ∷ 255 ∷ []) ++ scheduleRecord (0 ∷ []))
+    (job (0x01020304 ∷ replicate 14 0 ++ (0xFFFFFFFF ∷ [])) (0xFF01020304 ∷ 0x0100010000 ∷ []) (7 ∷ 255 ∷ 0 ∷ []))
+    -- 3: "a lent slice too short", before any record
+    ∷ judgedIn 4095 64 16384 (tableRecord 3) 3 0 ∷ judgedIn 4096 63 16384 (tableRecord 3) 3 0 ∷ judgedIn 4096 64 16383 (tableRecord 3) 3 0
+    ∷ judgedIn 4096 64 16384 (tableRecord 3) 0 0 ∷ judgedIn 4096 64 16383 [] 3 0 ∷ unread (tableRecord 3) 9 2 1 3 0
+    -- 12: "file over 65,535 bytes", before any record
+    ∷ judged (replicate 65536 0) 12 0 ∷ judged (replicate 65535 0) 9 0
+    -- 10: "empty file, or fewer than two bytes of a mark", at "its offset"
+    ∷ says [] "refused 10 at 0\n" ∷ says (text "T") "refused 10 at 0\n" ∷ says (text "X") "refused 10 at 0\n"
+    ∷ says (tableRecord 3 ++ text "C") "refused 10 at 3\n"
+    -- 9: "unknown mark, or mark out of order", before the body is looked at
+    ∷ says (text "XX") "refused 9 at 0\n" ∷ says (text "BT") "refused 9 at 0\n" ∷ says (text "TL") "refused 9 at 0\n"
+    ∷ says (tableRecord 3 ++ text "SP") "refused 9 at 3\n"
+    ∷ says (text "CL") "refused 9 at 0\n" ∷ says (text "OP") "refused 9 at 0\n" ∷ says (text "SC") "refused 9 at 0\n"
+    ∷ says (tableRecord 3 ++ text "TB") "refused 9 at 3\n"
+    ∷ says (tableRecord 3 ++ cellRecord 4 1 1 ++ text "TB") "refused 9 at 11\n"
+    ∷ says (tableRecord 3 ++ find1Record ++ text "CL") "refused 9 at 10\n"
+    ∷ says (tableRecord 3 ++ find1Record ++ scheduleRecord (0 ∷ []) ++ text "OP") "refused 9 at 14\n"
+    ∷ says (tableRecord 3 ++ scheduleRecord (0 ∷ []) ++ text "CL") "refused 9 at 7\n"
+    -- 10: "body incomplete"
+    ∷ says (text "TB") "refused 10 at 0\n"
+    ∷ says (tableRecord 3 ++ text "CL" ++ (0 ∷ 4 ∷ 0 ∷ 1 ∷ 0 ∷ [])) "refused 10 at 3\n"
+    ∷ says (tableRecord 3 ++ text "OP" ++ (1 ∷ 0 ∷ 1 ∷ 0 ∷ [])) "refused 10 at 3\n"
+    ∷ says (tableRecord 3 ++ find1Record ++ text "SC") "refused 10 at 10\n"
+    ∷ says (tableRecord 3 ++ find1Record ++ text "SC" ++ (2 ∷ 0 ∷ [])) "refused 10 at 10\n"
+    -- 11: "TB, CL or SC body not as above": "k, 3 to 12"
+    ∷ says (tableRecord 2) "refused 11 at 0\n" ∷ says (tableRecord 13) "refused 11 at 0\n"
+    ∷ judged (tableRecord 3) 0 0 ∷ judged (tableRecord 12) 0 0
+    -- "Cell numbers ascend, none twice, and are below c; the key is not 0."
+    ∷ says (tableRecord 3 ++ cellRecord 8 1 1) "refused 11 at 3\n"
+    ∷ says (tableRecord 12 ++ cellRecord 4096 1 1) "refused 11 at 3\n"
+    ∷ judged (tableRecord 12 ++ cellRecord 4095 1 1) 0 0
+    ∷ says (tableRecord 3 ++ cellRecord 5 9 1 ++ cellRecord 4 1 1) "refused 11 at 11\n"
+    ∷ says (tableRecord 3 ++ cellRecord 4 1 1 ++ cellRecord 4 1 1) "refused 11 at 11\n"
+    ∷ says (tableRecord 3 ++ cellRecord 4 1 1 ++ cellRecord 5 0 0) "refused 11 at 11\n"
+    ∷ judged (tableRecord 3 ++ cellRecord 0 5 1 ++ cellRecord 7 8 1) 0 0
+    -- "count (one byte, 1 to 255)"
+    ∷ says (tableRecord 3 ++ find1Record ++ scheduleRecord []) "refused 11 at 10\n"
+    ∷ says (tableRecord 3 ++ find1Record ++ scheduleRecord (replicate 255 0))
+    "rows 1 done 1 lost 0 idle 254\nrow 0 find 1 0 absent 0\nlog 0\n"
+    -- 2: "the 65th row, or more than 16,384 entries". Entries are counted here at one record: a file of 65 SC records is dear to compute.
+    ∷ judged (tableRecord 3 ++ rounds 65 find1Record) 2 451
+    ∷ judged (tableRecord 3 ++ rounds 64 find1Record) 0 0
+    ∷ counted 0 255 0 255 ∷ counted 16320 64 0 16384 ∷ counted 16320 65 2 16385 ∷ counted 16384 1 2 16385
+    -- "It leaves checks 4 to 8 to the run.": their places are cells, rows and entries
+    ∷ says (tableRecord 3 ++ cellRecord 6 65535 1) "refused 4 at 6\n"
+    ∷ says (tableRecord 3 ++ find1Record ++ operationRecord 5 1 1) "refused 5 at 1\n"
+    ∷ says (tableRecord 3 ++ scheduleRecord (0 ∷ [])) "refused 6 at 0\n"
+    ∷ says (tableRecord 3 ++ cellRecord 4 1 1 ++ cellRecord 6 1 1) "refused 7 at 6\n"
+    -- "The reader takes records in file order and reports the first faulty one."
+    ∷ says (tableRecord 3 ++ cellRecord 8 1 1 ++ text "XX") "refused 11 at 3\n"
+    ∷ []
+
+-- Every kind and every answer in one run: the kinds on their own keys, then on missing ones; the last two rows have too few entries or none.
+unfoldable pub everyFile : List ℕ
+everyFile =
+    tableRecord 3
+    ++ cellRecord 0 5 65534 ++ cellRecord 1 2 20 ++ cellRecord 2 7 65535 ++ cellRecord 3 4 40 ++ cellRecord 4 1 10 ++ cellRecord 5 6 60
+    ++ cellRecord 6 3 30
+    ++ operationRecord 1 5 0 ++ operationRecord 2 8 65535 ++ operationRecord 2 2 7 ++ operationRecord 3 7 65534 ++ operationRecord 4 4 65534
+    ++ operationRecord 5 1 0 ++ operationRecord 1 9 0 ++ operationRecord 4 9 1 ++ operationRecord 3 10 65535 ++ operationRecord 5 17 0
+    ++ operationRecord 2 65534 0
+    ++ scheduleRecord (0 ∷ 1 ∷ 1 ∷ 2 ∷ 3 ∷ 3 ∷ 4 ∷ 4 ∷ 5 ∷ 5 ∷ [])
+    ++ scheduleRecord (replicate 8 8) ++ scheduleRecord (replicate 8 7) ++ scheduleRecord (replicate 8 6) ++ scheduleRecord (replicate 7 9)
+
+unfoldable pub everyText : List ℕ
+everyText =
+    text "rows 11 done 9 lost 0 idle 0\n"
+    ++ text "row 0 find 5 0 found 65534\n"
+    ++ text "row 1 insert 8 pinned inserted 0\n"
+    ++ text "row 2 insert 2 7 present 20\n"
+    ++ text "row 3 update 7 65534 changed pinned\n"
+    ++ text "row 4 add 4 65534 changed 40\n"
+    ++ text "row 5 remove 1 0 removed 10\n"
+    ++ text "row 6 find 9 0 absent 0\n"
+    ++ text "row 7 add 9 1 full 0\n"
+    ++ text "row 8 update 10 pinned absent 0\n"
+    ++ text "row 9 remove 17 0 unfinished 0\n"
+    ++ text "row 10 insert 65534 0 unfinished 0\n"
+    ++ text "log 0 1 2 3 4 5 8 7 6\n"
+    ++ text "cell 0 5 65534\n"
+    ++ text "cell 1 2 20\n"
+    ++ text "cell 2 7 65534\n"
+    ++ text "cell 3 4 pinned\n"
+    ++ text "cell 4 gone\n"
+    ++ text "cell 5 6 60\n"
+    ++ text "cell 6 3 30\n"
+    ++ text "cell 7 8 pinned\n"
+
+unfoldable pub furtherTexts : List Case
+furtherTexts =
+    -- "row number, kind, key, amount, answer, its total"; "A total or amount of 65,535 is written pinned."
+    writes everyFile everyText
+    -- "the log (the word alone if nobody finished); then each non-empty cell with key and total, a tombstone as `cell 4 gone`"
+    ∷ says (tableRecord 3) "rows 0 done 0 lost 0 idle 0\nlog\n"
+    ∷ says (tableRecord 4 ++ cellRecord 10 65535 0 ++ cellRecord 12 65534 65535 ++ find1Record)
+    "rows 1 done 0 lost 0 idle 0\nrow 0 find 1 0 unfinished 0\nlog\ncell 10 gone\ncell 12 65534 pinned\n"
+    ∷ []
+
 -- A longer run than the document's: 16 cells with a tombstone and a saturated total, ten operations that take turns eight times. Rooms 9 and 17
 -- begin at the tombstone, 55 and 42 pass the end of the table, and four swaps are lost.
-abbrev rounds : ℕ → List ℕ → List ℕ
-rounds zero l = []
-rounds (suc n) l = l ++ rounds n l
-
 unfoldable pub longer : Contents
 longer =
     job (table 16 (at 8 65535 0 ∷ at 9 1 40 ∷ at 14 16 5 ∷ at 15 8 65535 ∷ []))
@@ -189,6 +474,39 @@ longer =
     ∷ operation 4 42 2
     ∷ [])
     (rounds 8 (0 ∷ 1 ∷ 2 ∷ 3 ∷ 4 ∷ 5 ∷ 6 ∷ 7 ∷ 8 ∷ 9 ∷ []))
+
+-- A run with no cell to spare: four of 8 cells are not empty, one of them a tombstone, and four missing rooms are added, 9 by two rows. Adds to
+-- 1 and 2, which are present, make no room, and nor does the find; 2 is saturated by what is added, 5 from the start; two swaps are lost,
+-- and entries are idle. At the end no cell is empty.
+unfoldable pub edge : Contents
+edge =
+    job (table 8 (at 0 5 65535 ∷ at 1 2 65530 ∷ at 4 65535 0 ∷ at 5 1 40 ∷ []))
+    (operation 4 9 25
+    ∷ operation 4 9 7
+    ∷ operation 4 1 5
+    ∷ operation 4 17 1
+    ∷ operation 4 10 2
+    ∷ operation 1 9 0
+    ∷ operation 4 2 10
+    ∷ operation 4 16 3
+    ∷ [])
+    (rounds 11 (0 ∷ 1 ∷ 2 ∷ 3 ∷ 4 ∷ 5 ∷ 6 ∷ 7 ∷ []))
+
+-- what they leave
+unfoldable pub furtherRuns : List Case
+furtherRuns =
+    leaves longer
+    (left (table 16 (at 0 55 1 ∷ at 1 42 2 ∷ at 8 65535 0 ∷ at 9 1 65535 ∷ at 10 9 25 ∷ at 11 17 7 ∷ at 14 16 5 ∷ at 15 8 65535 ∷ []))
+    (answer 4 40 ∷ answer 2 0 ∷ answer 2 0 ∷ answer 4 140 ∷ answer 6 0 ∷ answer 4 65535 ∷ answer 2 0 ∷ answer 1 5 ∷ answer 4 25 ∷ answer 2 0 ∷ [])
+    (7 ∷ 0 ∷ 5 ∷ 4 ∷ 6 ∷ 1 ∷ 3 ∷ 8 ∷ 9 ∷ 2 ∷ []) 10 4 42)
+    ∷ leaves edge
+    (left (table 8 (at 0 5 65535 ∷ at 1 2 65535 ∷ at 2 10 2 ∷ at 3 17 1 ∷ at 4 65535 0 ∷ at 5 1 45 ∷ at 6 9 32 ∷ at 7 16 3 ∷ []))
+    (answer 2 0 ∷ answer 4 25 ∷ answer 4 40 ∷ answer 2 0 ∷ answer 2 0 ∷ answer 6 0 ∷ answer 4 65530 ∷ answer 2 0 ∷ [])
+    (6 ∷ 7 ∷ 2 ∷ 4 ∷ 5 ∷ 0 ∷ 1 ∷ 3 ∷ []) 8 2 54)
+    ∷ []
+
+unfoldable pub cases : List Case
+cases = starred ++ furtherNumbers ++ furtherCalls ++ furtherFiles ++ furtherTexts ++ furtherRuns
 
 -- all that demand 3 asks of a run
 pub record Meets (j : Contents) : Type 0 where
