@@ -7,13 +7,14 @@ use mathlib.Core.Path.{_≡_}
 use Prim.Native.String.{String}
 use Prim.Native.Nat.{ℕ, zero, suc, _+_, _-_, _^_, _/_, _%_}
 use mathlib.Core.Bool.{Bool, true, false, _&&_, Bool·beq}
-use mathlib.Core.List.{List, [], _∷_, _++_, map}
+use mathlib.Core.List.{List, [], _∷_, _++_}
 use lib.Dec.{T, eqb}
 use lib.ListN.{length, set, replicate}
 use Rattle.semantics.specs.Totals.{plusAt, narrow, narrowCeiling}
 use Rattle.semantics.specs.TotalsRule.{onlyFindsAndAdds, CellsSuffice}
-use Rattle.semantics.specs.Words.{cellWord as cell, operationWord as operation, packedAnswer as answer, roomHome, roomSum, decode, decodeOperation, narrowSetting}
+use Rattle.semantics.specs.Words.{cellWord as cell, operationWord as operation, packedAnswer as answer, roomHome, roomSum}
 use Rattle.semantics.specs.Run.{Result, runResult}
+use Rattle.semantics.specs.Demands.{settingOf, cellsOf, operationsOf}
 use Rattle.semantics.specs.Text.{text}
 use Rattle.semantics.specs.declared.Refusal.{Refusal}
 use Rattle.semantics.specs.declared.Position.{Position}
@@ -511,6 +512,6 @@ cases = starred ++ furtherNumbers ++ furtherCalls ++ furtherFiles ++ furtherText
 -- all that demand 3 asks of a run
 pub record Meets (j : Contents) : Type 0 where
   pub accepted : resultOf j .outcome .number ≡ 0
-  pub only : T (onlyFindsAndAdds (map decodeOperation (j .operations)))
+  pub only : T (onlyFindsAndAdds (operationsOf (j .operations)))
   pub finished : resultOf j .outcome .done ≡ length (j .operations)
-  pub suffice : CellsSuffice (narrowSetting (length (j .cells))) (map decode (j .cells)) (map decodeOperation (j .operations))
+  pub suffice : CellsSuffice (settingOf (j .cells)) (cellsOf (j .cells)) (operationsOf (j .operations))
