@@ -8,7 +8,7 @@ use lib.Dec.{T, ltb, leb·suc-suc}
 use lib.Pow.{pow-add, pow-pos, pow-lt}
 use lib.Count.{ones, trailingZeros, under, ones-step, ones-cat, ones-le}
 use borrow.Author.Tests.{eq-eqb, ne-eqb, lt-ltb, le-ltb}
-use Rattle.semantics.specs.Words.{isPowerFrom, sizeAllowed, homeIn}
+use Rattle.semantics.specs.Words.{isPowerFrom, sizeAllowed, hashOf, homeIn, scaledHome}
 use Rattle.semantics.proofs.Narrow.{power}
 
 -- a power has one bit set
@@ -49,9 +49,9 @@ scaled j r x e =
     let part : 65536 / 2 ^ j ≡ 2 ^ r = ap (λ n. n / 2 ^ j) whole ∙ mul-div-cancel (2 ^ r) (pow-pos j) in
     ap (λ n. x * 2 ^ j / n) whole ∙ mul-div-mul-right x (2 ^ r) (pow-pos j) ∙ ap (λ n. x / n) (sym part)
 
-pub home-is : (c k : ℕ) → T (sizeAllowed c) → k * 40503 % 65536 * c / 65536 ≡ homeIn c k
-unfolding sizeAllowed homeIn
+pub home-is : (c k : ℕ) → T (sizeAllowed c) → scaledHome c k ≡ homeIn c k
+unfolding sizeAllowed homeIn scaledHome
 home-is c k h =
     let p = power 3 10 c h in
-    let x = k * 40503 % 65536 in
+    let x = hashOf k in
     subst (λ n. x * n / 65536 ≡ x / (65536 / n)) (sym (p .is)) (scaled (p .exponent) (16 - p .exponent) x (omega (arith, p .low, p .high)))

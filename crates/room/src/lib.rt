@@ -3,8 +3,7 @@
 // takes every input.
 ghost use mathlib.Core.Path.{_≡_};
 ghost use mathlib.Core.Bool.{true};
-ghost use Prim.Native.Nat.{_*_, _/_, _%_};
-ghost use Rattle.semantics.specs.Words.{isPowerFrom, sizeAllowed, homeIn, roomHome, roomSum};
+ghost use Rattle.semantics.specs.Words.{isPowerFrom, sizeAllowed, homeIn, scaledHome, roomHome, roomSum};
 use word::is_live;
 
 // Whether c is one of n powers of two, 2^low the lowest: one bit of c is set, and the zeros below
@@ -32,7 +31,7 @@ pub fn size_allowed(c: usize) -> bool
 // handed in is taken. Document 01 gives homes for allowed sizes alone; the first clause says what any
 // other size gets.
 pub fn home(key: u16, c: u32) -> u32
-    ensures scaled { λ r. ⌜ r ≡ key * 40503 % 65536 * c / 65536 ⌝ }
+    ensures scaled { λ r. ⌜ r ≡ scaledHome c key ⌝ }
     ensures home { λ r. ⌜ (sizeAllowed c ≡ true → r ≡ homeIn c key) ⌝ }
 {
     let hash = (key as u64) * 40503 % 65536;

@@ -34,15 +34,16 @@ rule-kinds c k a t u e =
     (refl, refl, refl, ap (λ (v : ℕ). record { known = true; makes = true; stays = false; word = k * 65536 + v; answer = 262144 + t }) e, refl)
 
 -- any other number is refused
-pub rule-none : (n : ℕ) → (n ≡ 1 → ⊥) → (n ≡ 2 → ⊥) → (n ≡ 3 → ⊥) → (n ≡ 4 → ⊥) → (n ≡ 5 → ⊥) → (c : ℕ) (o : Operation Total) (t : ℕ)
+pub no-kind : (n : ℕ) → (n ≡ 1 → ⊥) → (n ≡ 2 → ⊥) → (n ≡ 3 → ⊥) → (n ≡ 4 → ⊥) → (n ≡ 5 → ⊥) → isKind n ≡ false
+unfolding isKind
+no-kind n a b d e f = not-eq-not .0 (λ h.
+    let (low, high) = both (ltb 0 n) (ltb n 6) (true-T _ h) in
+    omega (arith, ltb→lt 0 n low, ltb→lt n 6 high))
+
+pub rule-none : (n : ℕ) → isKind n ≡ false → (c : ℕ) (o : Operation Total) (t : ℕ)
     → ruleIf (isKind n) c o t ≡ record { known = false; makes = false; stays = false; word = 0; answer = 0 }
-unfolding isKind ruleIf
-rule-none n a b d e f c o t = ap (λ (z : Bool). ruleIf z c o t) none
-  where
-    none : isKind n ≡ false
-    none = not-eq-not .0 (λ h.
-        let (low, high) = both (ltb 0 n) (ltb n 6) (true-T _ h) in
-        omega (arith, ltb→lt 0 n low, ltb→lt n 6 high))
+unfolding ruleIf
+rule-none n none c o t = ap (λ (z : Bool). ruleIf z c o t) none
 
 -- the rule of an operation whose kind is one of the five, or is not
 pub rule-if : (c operation t : ℕ) {rule : Rule} → rule ≡ ruleOf c operation t → {b : Bool} → isKind (kindBits operation) ≡ b

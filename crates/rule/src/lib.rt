@@ -27,12 +27,20 @@ pub struct Rule {
     pub answer: u32,
 }
 
-// Whether an operation's kind is one of the five: rule_of knows its rule.
+// Whether an operation's kind is one of the five, and any other number refused: rule_of knows its
+// rule. A read that passes on needs no more of the rule than this.
 pub fn is_known(operation: u64) -> bool
     ensures { λ r. ⌜ r ≡ isKind (kindBits operation) ⌝ }
 {
     let kind = operation_kind(operation);
-    0 < kind && kind < 6
+    match kind {
+        1 => true,
+        2 => true,
+        3 => true,
+        4 => true,
+        5 => true,
+        _ => false,
+    }
 }
 
 // The read rule and the new word of a kind, where the operation's key has the total of a word; any

@@ -34,11 +34,13 @@ use Rattle.semantics.proofs.Words.{operation-parts, encode-decode-all}
 use Rattle.semantics.proofs.WordsHold as hold
 use Rattle.sets.proofs.Sets.{in-none, in-including, size-none, size-including}
 use Rattle.step.specs.declared.Progress.{Progress}
-use Rattle.step.specs.declared.Event.the-variants.{Finished, Lost}
+use Rattle.step.specs.declared.Event.{Event}
+use Rattle.step.specs.declared.Event.the-variants.{Passed as OnePassed, Held, Lost, Finished, Refused}
 use Rattle.step.specs.declared.Stepped.{Stepped}
-use Rattle.step.specs.Progress.{Left, stepTaken}
+use Rattle.step.specs.Progress.{Left, begun, stepTaken}
 use Rattle.step.proofs.Represents.{recordOf, record-at, eventOf, step-is}
 use Rattle.begin.specs.Records.{blank, atHome, firstRecords}
+use Rattle.run.specs.Entry.{Standing, told, afterEntry}
 use Rattle.semantics.proofs.Over.{over-none, over-over, over-get, over-set, over-next, over-length}
 
 -- the record of a row, in c cells
@@ -232,8 +234,12 @@ module _ {call : Call} (ok : Passed call) where
             few = omega (arith, H .few);
           })
 
-      -- and one that names an unfinished row is a step of it; z is what the record is read by default
-      module _ (z : Progress) (unfinished : isIn finished i ≡ false) where
+      -- and one that names an unfinished row is a step of it
+      module _ (unfinished : isIn finished i ≡ false) where
+        -- what a record is read by default
+        abbrev z : Progress
+        z = begun 0
+
         abbrev operation : ℕ
         operation = getD (call .operations) i 0
 
@@ -396,11 +402,11 @@ module _ {call : Call} (ok : Passed call) where
           event-is : result .event ≡ eventOf (stepped .turn)
           event-is = ap (λ (x : Stepped). x .event) result-then
 
-          pub at-lost : result .event ≡ Lost → Then answers log finished (lost + 1)
+          at-lost : result .event ≡ Lost → Then answers log finished (lost + 1)
           unfolding after answered logged countLost
           at-lost e = stays loses (lost-turn (stepped .turn) (sym event-is ∙ e)) refl refl (lost + 1) (omega (arith, H .lost-is)) (omega (arith, H .few))
 
-          pub at-other : (result .event ≡ Finished → ⊥) → (result .event ≡ Lost → ⊥) → Then answers log finished lost
+          at-other : (result .event ≡ Finished → ⊥) → (result .event ≡ Lost → ⊥) → Then answers log finished lost
           at-other f l =
               let (unanswered-still, silent, none-lost) = other-turn (stepped .turn) (λ q. f (event-is ∙ q)) (λ q. l (event-is ∙ q)) (passed S s) i (m .log) (m .lost) in
               stays (stepped .turn) refl unanswered-still silent lost (H .lost-is ∙ sym none-lost) (omega (arith, H .few))
@@ -419,7 +425,7 @@ module _ {call : Call} (ok : Passed call) where
               go true = refl
               go false = H .finished-are j
 
-          pub at-finished : n ≤ length log₀ → result .event ≡ Finished → {answers′ log′ : List ℕ} {finished′ : ℕ}
+          at-finished : n ≤ length log₀ → result .event ≡ Finished → {answers′ log′ : List ℕ} {finished′ : ℕ}
               → answers′ ≡ set answers i (result .progress .answer) → log′ ≡ set log (ones finished) i → finished′ ≡ including finished i
               → Then answers′ log′ finished′ lost
           unfolding logged countLost
@@ -438,3 +444,36 @@ module _ {call : Call} (ok : Passed call) where
               (ap ones grown ∙ size-including finished i (omega (arith, below, ok .few)) unfinished ∙ omega (arith, H .size-is, length-append (m .log) (i ∷ [])))
               (H .lost-is)
               (omega (arith, H .few))
+
+        -- where the run stands before the entry; after it, it stands where `afterEntry` says
+        abbrev standing : Standing
+        standing = record { cells = cells; records = records; answers = answers; log = log; finished = finished; lost = lost }
+
+        pub at-entry : n ≤ length log₀ → {s′ : Standing} → afterEntry operation i standing ≡ s′
+            → At c answers₀ log₀ (after-entries (k + 1)) (k + 1) (s′ .cells) (s′ .records) (s′ .answers) (s′ .log) (s′ .finished) (s′ .lost) idle
+        unfolding afterEntry told
+        at-entry fits is = subst Then-at is (go (left .stepped .event) refl)
+          where
+            Then-at : Standing → Type 0
+            Then-at x = At c answers₀ log₀ (after-entries (k + 1)) (k + 1) (x .cells) (x .records) (x .answers) (x .log) (x .finished) (x .lost) idle
+
+            stored : Standing
+            stored =
+                record {
+                  cells = set cells (getD records i z .at) (left .word);
+                  records = set records i (left .stepped .progress);
+                  answers = answers;
+                  log = log;
+                  finished = finished;
+                  lost = lost;
+                }
+
+            clash : _≡_ {A = ℕ} 0 1 → ⊥
+            clash q = omega (arith, q)
+
+            go : (e : Event) → left .stepped .event ≡ e → Then-at (told e i (left .stepped .progress .answer) stored)
+            go OnePassed e = at-other refl refl (λ q. clash cc) (λ q. clash cc)
+            go Held e = at-other refl refl (λ q. clash cc) (λ q. clash cc)
+            go Lost e = at-lost refl refl e
+            go Finished e = at-finished refl refl fits e refl refl refl
+            go Refused e = at-other refl refl (λ q. clash cc) (λ q. clash cc)

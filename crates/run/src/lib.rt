@@ -2,12 +2,17 @@
 // judged first, and only then is anything written; each entry then takes one step of the operation
 // that it names, or is idle.
 ghost use mathlib.Core.Path.{_≡_};
+ghost use mathlib.Core.List.{List};
 ghost use Prim.Native.Nat.{_<_};
 ghost use lib.Count.{ones};
-ghost use lib.ListN.{length, set};
+ghost use lib.ListN.{length, getD, set};
 ghost use Rattle.semantics.specs.Sets.{including};
+ghost use Rattle.semantics.specs.Refusals.{mostEntries};
 ghost use Rattle.semantics.specs.Run.{machine, refusalOf, acceptedResult};
 ghost use Rattle.semantics.specs.Demands.{Demands};
+ghost use Rattle.step.specs.declared.Progress.{Progress};
+ghost use Rattle.step.specs.Progress.{begun};
+ghost use Rattle.run.specs.Entry.{afterEntry};
 use advance::take_step;
 use begin::begin;
 use clear::clear;
@@ -18,6 +23,7 @@ use sets::has;
 use sets::size;
 use sets::with;
 use step::Event;
+use step::Progress;
 use validate::validate;
 
 // An operation finishes: its answer is written, and it enters the log behind those that finished before
@@ -31,6 +37,67 @@ fn finish(answers: &mut [u32], log: &mut [u8], finished: u64, entry: u8, answer:
     answers[entry as usize] = answer;
     log[size(finished)] = entry;
     with(finished, entry)
+}
+
+// What an entry leaves beside the slices: the record of the operation that it names, the set of finished
+// operations and the lost swaps.
+struct Entered {
+    progress: Progress,
+    finished: u64,
+    lost: usize,
+}
+
+// The record is made anew, field by field: copied whole it would hand on its padding at every entry
+// (docs/DECISIONS.md).
+fn leave(progress: Progress, finished: u64, lost: usize) -> Entered
+    ensures { λ r. ⌜ r ≡ record { progress = progress; finished = finished; lost = lost } ⌝ }
+{
+    let next = Progress {
+        at: progress.at,
+        passed: progress.passed,
+        holds: progress.holds,
+        held: progress.held,
+        answer: progress.answer,
+    };
+    Entered {
+        progress: next,
+        finished: finished,
+        lost: lost,
+    }
+}
+
+// Takes an entry that names an unfinished operation: one step of it, and what the step's event adds.
+//
+// It is lent a copy of that operation's record, which the loop puts back. Whatever the records of the
+// run are, with this one back in its place they are those after the entry, every other as it was. All
+// of them are not lent: a reference to their array would make the loop a proof by hand, and by value
+// the array is copied at every entry.
+fn take_entry(
+    cells: &mut [u32],
+    answers: &mut [u32],
+    log: &mut [u8],
+    operation: u64,
+    progress: Progress,
+    entry: u8,
+    finished: u64,
+    lost: usize,
+) -> Entered
+    requires { ⌜ (entry < length (now answers)) × (ones finished < length (now log)) × (lost < mostEntries) ⌝ }
+    ensures { λ r. ⌜ ((records : List Progress) → getD records entry (begun 0) ≡ progress
+        → afterEntry operation entry (record { cells = now (cells .entry); records = records; answers = now (answers .entry); log = now (log .entry); finished = finished; lost = lost })
+        ≡ record { cells = now (cells .exit); records = set records entry (r .progress); answers = now (answers .exit); log = now (log .exit); finished = r .finished; lost = r .lost }) ⌝ }
+{
+    let stepped = take_step(cells, operation, progress);
+    let next = stepped.progress;
+    let event = stepped.event;
+    match event {
+        Event::Finished => {
+            let grown = finish(answers, log, finished, entry, next.answer);
+            leave(next, grown, lost)
+        }
+        Event::Lost => leave(next, finished, lost + 1),
+        _ => leave(next, finished, lost),
+    }
 }
 
 // Takes the schedule's entries in turn, on a call that is not turned away.
@@ -65,21 +132,20 @@ fn entries(
             continue;
         }
         let i = entry as usize;
-        let stepped = take_step(cells, operations[i], records[i]);
-        let progress = stepped.progress;
-        let event = stepped.event;
+        let entered = take_entry(
+            cells,
+            answers,
+            log,
+            operations[i],
+            records[i],
+            entry,
+            finished,
+            lost,
+        );
+        let progress = entered.progress;
         records[i] = progress;
-        match event {
-            Event::Finished => {
-                finished = finish(answers, log, finished, entry, progress.answer);
-                continue;
-            }
-            Event::Lost => {
-                lost = lost + 1;
-                continue;
-            }
-            _ => continue,
-        }
+        finished = entered.finished;
+        lost = entered.lost;
     }
     made(finished, lost, idle)
 }

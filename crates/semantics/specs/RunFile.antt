@@ -48,6 +48,10 @@ mayFollow before part = cond (eqb before 0) (eqb part 1) (ltb 1 part && leb befo
 abbrev pub mostCells : ℕ
 mostCells = 4096
 
+-- "file over 65,535 bytes" is refused
+abbrev pub longestFile : ℕ
+longestFile = 65535
+
 -- where the first record stands: at offset 0, with nothing read
 abbrev pub start : Position
 start = record { at = 0; part = 0; size = 0; lowest = 0; operations = 0; entries = 0 }
@@ -142,7 +146,7 @@ module _ (file : List ℕ) (cells operations schedule : ℕ) where
 
   -- 12: "file over 65,535 bytes"
   unfoldable pub fileTooLong : Condition
-  fileTooLong = record { number = 12; met = ltb 65535 (length file); place = 0 }
+  fileTooLong = record { number = 12; met = ltb longestFile (length file); place = 0 }
 
   unfoldable pub readerConditions : List Condition
   readerConditions = sliceTooShort ∷ fileTooLong ∷ recordConditions runFile file (records runFile file start)

@@ -58,8 +58,16 @@ encode tombstone = tombstoneWord
 encode (live k t) = cellWord k (t .amount)
 
 -- "Home of a key: (key × 40,503) mod 65,536, divided by (65,536 / c), rounded down."
+abbrev pub hashOf : ℕ → ℕ
+hashOf k = k * 40503 % 65536
+
 unfoldable pub homeIn : ℕ → ℕ → ℕ
-homeIn c k = k * 40503 % 65536 / (65536 / c)
+homeIn c k = hashOf k / (65536 / c)
+
+-- The hash of a key scaled to c. For an allowed c it is the home; code computes it with no division by a number that is handed in, and it says
+-- what a c gets for which the document gives no home.
+unfoldable pub scaledHome : ℕ → ℕ → ℕ
+scaledHome c k = hashOf k * c / 65536
 
 -- "A row is one operation in a 64-bit word: kind × 2^32 + key × 65,536 + amount. The kind takes eight bits."
 abbrev pub kindBits : ℕ → ℕ

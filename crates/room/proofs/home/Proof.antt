@@ -6,6 +6,7 @@ use Prim.Native.Nat.{ℕ, _*_, _%_, _≤_}
 use native.Mathlib.Nat.{mul-le-mul-right}
 use native.Mathlib.Omega.{arith}
 use borrow.Author.Needs.{needs}
+use Rattle.semantics.specs.Words.{scaledHome}
 use Rattle.semantics.proofs.Booleans.{true-T}
 use Rattle.room.proofs.Powers.{home-is}
 use Rattle.room.proofs.home.Statement.{statement}
@@ -24,6 +25,7 @@ cast-result : tie.Need-cast-result
 cast-result c = record { fits = omega (arith, product (c .args .key) (c .args .c), c .fits .c .fits) }
 
 returns : tie.Need-returns
+unfolding scaledHome
 returns c = (refl, λ h. home-is _ _ (true-T _ h))
 
 pub home-spec : {M : Type 1} → statement M

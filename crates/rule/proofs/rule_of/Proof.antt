@@ -8,7 +8,7 @@ use Rattle.semantics.specs.Totals.{narrow}
 use Rattle.semantics.specs.Words.{isKind, kindOf, totalBits}
 use Rattle.semantics.proofs.Narrow.{room-sum}
 use Rattle.rule.specs.Rule.{ruleOf, ruleIf}
-use Rattle.rule.proofs.Rules.{rule-parts, rule-kinds, rule-none}
+use Rattle.rule.proofs.Rules.{rule-parts, rule-kinds, no-kind, rule-none}
 use Rattle.rule.proofs.rule_of.Statement.{statement}
 use Rattle.rule.proofs.rule_of.Tie as tie
 
@@ -85,7 +85,7 @@ returns-5 c = λ s. c .known5 .ensures ∙ rule-kinds s _ _ _ _ refl .4 ∙ sym 
 returns-6 : tie.Need-returns-6
 returns-6 c = λ s.
     let r = c .match .rest in
-    sym (fields (c .before) s refl ∙ rule-none _ (r .0 .0 .0 .0 .1) (r .0 .0 .0 .1) (r .0 .0 .1) (r .0 .1) (r .1) s _ _)
+    sym (fields (c .before) s refl ∙ rule-none _ (no-kind _ (r .0 .0 .0 .0 .1) (r .0 .0 .0 .1) (r .0 .0 .1) (r .0 .1) (r .1)) s _ _)
 
 pub rule-of-spec : {M : Type 1} → statement M
 rule-of-spec =
