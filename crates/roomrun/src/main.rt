@@ -12,10 +12,8 @@ use io::write_all;
 use libc::STDIN_FILENO;
 use libc::STDOUT_FILENO;
 use report::report;
+use semantics::MOST_BYTES;
 use semantics::MOST_TEXT;
-
-// One byte more than the longest file has.
-const MOST_READ: usize = 65536;
 
 // Reads standard input and says how many bytes came. It asks for room for one byte more than the
 // longest file has, so that a longer one is seen and refused. A short read from a pipe is not taken
@@ -39,7 +37,7 @@ fn respond(file: &[u8], text: &mut [u8]) -> usize
 }
 
 fn main() {
-    let mut file = [0u8; MOST_READ];
+    let mut file = [0u8; MOST_BYTES + 1];
     let n = read_file(&mut file);
     let mut text = [0u8; MOST_TEXT];
     let length = respond(&file[..n], &mut text);

@@ -18,6 +18,7 @@ use operation::operation_word;
 use record::fault_at;
 use record::start;
 use semantics::Loaded;
+use semantics::MOST_BYTES;
 use semantics::MOST_CELLS;
 use semantics::MOST_ENTRIES;
 use semantics::MOST_OPERATIONS;
@@ -25,9 +26,6 @@ use semantics::Mark;
 use semantics::Position;
 use semantics::Refusal;
 use word::cell_word;
-
-// A file has at most 65,535 bytes.
-const MOST_BYTES: usize = 65535;
 
 // What stands in a record that is whole: its mark, the word of the cell that a CL record names, and of
 // the operation that an OP record holds. What is read is lent at its known size, so that no offset is

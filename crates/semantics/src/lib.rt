@@ -8,6 +8,9 @@ pub const MOST_OPERATIONS: usize = 64;
 
 pub const MOST_ENTRIES: usize = 16384;
 
+// A run file has no more bytes.
+pub const MOST_BYTES: usize = 65535;
+
 // No text of a run that those limits allow is longer, nor is that of a refusal.
 pub const MOST_TEXT: usize = 98304;
 
