@@ -17,10 +17,11 @@ use Rattle.semantics.specs.Cells.{lookup}
 use Rattle.semantics.specs.Map as Map
 use Rattle.semantics.specs.TotalsRule as TotalsRule
 use Rattle.semantics.specs.Words.{cellWord as cell, operationWord as operation, packedAnswer as answer}
-use Rattle.semantics.specs.Run.{Result, runResult, madeOutcome, refusedOutcome}
-use Rattle.semantics.specs.Demands.{settingOf, cellsOf, operationsOf, replayOf, Linearizable, TotalsKept, Untouched, Demands}
+use Rattle.semantics.specs.Run.{Result, machine, acceptedResult, runResult, madeOutcome, refusedOutcome}
+use Rattle.semantics.specs.Demands.{settingOf, cellsOf, operationsOf, replayOf, Linearizable, TotalsKept, Untouched, afterEntries, Demands}
 use Rattle.semantics.specs.Cases.{table, at, job, resultOf, fullTable}
 use Rattle.semantics.proofs.Booleans.{eq→eqb}
+use Rattle.semantics.proofs.WordsHold.{demands}
 use Rattle.semantics.proofs.Cases.{computed}
 
 -- every definition that the map and the totals rule compute with, beside those that a run does
@@ -69,6 +70,22 @@ both = answer 4 40 ∷ answer 4 45 ∷ []
 right : runResult start adds racing slices slices ≡ left added both (0 ∷ 1 ∷ []) 2
 unfolding computed
 right = refl
+
+-- and the demands speak of it on the way, not at the end alone: of its first four entries, the last of which is the lost swap
+abbrev midway : Result
+midway = afterEntries start adds racing slices slices 4
+
+midway-rules : midway ≡ acceptedResult (machine start adds (0 ∷ 1 ∷ 0 ∷ 1 ∷ [])) slices slices
+unfolding computed
+midway-rules = demands start adds racing slices slices .accepted refl .rules 4
+
+midway-linearizable : Linearizable start adds midway
+unfolding computed
+midway-linearizable = demands start adds racing slices slices .accepted refl .linearizable 4
+
+midway-untouched : midway .cells ≡ afterEntries start adds racing slices slices 3 .cells
+unfolding replayed
+midway-untouched = demands start adds racing slices slices .accepted refl .untouched 4 3 (lit≤ tt) (lit≤ tt) refl
 
 -- Demand 2, clause by clause.
 -- "Each finished answer .. [is] of a one-at-a-time map doing the finished operations in log order": another old total, another code, and the log
