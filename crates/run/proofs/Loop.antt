@@ -23,7 +23,7 @@ use Rattle.semantics.specs.Sets.{isIn, including}
 use Rattle.semantics.specs.Words.{encode, decodeOperation, answerWord, narrowSetting, isKind, kindBits, isLiveKey, operationKey, sizeAllowed, homeIn, roomHome}
 use Rattle.semantics.specs.Refusals.{Call}
 use Rattle.semantics.specs.Run.{over, machine, answerOf, outcomeOf, acceptedResult}
-use Rattle.semantics.proofs.Counts.{count-le, count-below}
+use Rattle.semantics.proofs.Counts.{none-false, count-le, count-below}
 use Rattle.semantics.proofs.Entries.{entry-idles, entry-steps, finished-here, finished-other}
 use Rattle.semantics.proofs.Lists.{map-each, elem-at, elem-getD, elem-map, map-set, map-set-elem}
 use Rattle.semantics.proofs.Narrow.{allowed-bounds, allowed-lawful}
@@ -145,11 +145,7 @@ module _ {call : Call} (ok : Passed call) where
 
   none-first : (i : ℕ) → isIn 0 i ≡ finishedIn (after-entries 0 .rows) i
   unfolding machine rules.run rules.begin occurs countOf
-  none-first i = in-none i ∙ go (finishedIn (after-entries 0 .rows) i) (hold.lin call ok [] .once i)
-    where
-      go : (b : Bool) → _≡_ {A = ℕ} 0 (cond b 1 0) → false ≡ b
-      go true e = absurd (omega (arith, e))
-      go false e = refl
+  none-first i = in-none i ∙ sym (none-false (finishedIn (after-entries 0 .rows) i) (sym (hold.lin call ok [] .once i)))
 
   pub at-start : {answers₀ log₀ : List ℕ} (answers : List ℕ) {records : List Progress} → answers₀ ≡ over (replicate n 0) answers → records ≡ firstRecords c (call .operations)
       → At c answers₀ log₀ (after-entries 0) 0 (call .cells) records answers₀ log₀ 0 0 0

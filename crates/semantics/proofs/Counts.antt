@@ -16,6 +16,11 @@ cond-swap true false n = refl
 cond-swap false true n = refl
 cond-swap false false n = refl
 
+-- a count of none says that the test fails
+pub none-false : (z : Bool) → _≡_ {A = ℕ} (cond z 1 0) 0 → z ≡ false
+none-false true e = absurd (omega arith)
+none-false false e = refl
+
 one-more : (z : Bool) (n : ℕ) → cond z (suc n) n ≡ n + cond z 1 0
 one-more true n = omega arith
 one-more false n = omega arith

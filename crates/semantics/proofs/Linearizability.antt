@@ -18,7 +18,7 @@ use Rattle.semantics.specs.Step.{Turn, Pending, reading, holding, State,
 use Rattle.semantics.specs.Step.{step, passed, placeOf, taken, entry, freshRow, begin, run}
 use Rattle.semantics.specs.Map.{Map, Replay, mapOf, performed, noted, replayOne, replay}
 use Rattle.semantics.proofs.Laws.{Lawful, Accepted}
-use Rattle.semantics.proofs.Counts.{count-set, count-snoc}
+use Rattle.semantics.proofs.Counts.{none-false, count-set, count-snoc}
 use Rattle.semantics.proofs.Lists.{elem-set-same, elem-set-other, elem-set-all, elem-getD, elem-map, elem-map-all, map-set-elem, map-on}
 use Rattle.semantics.proofs.Table.{Agrees, Probed, own-place, located-lookup, size-pos, start-agrees}
 use Rattle.semantics.proofs.Entries.{by-entry, by-run, log-grows, finished-here, finished-other}
@@ -304,11 +304,7 @@ module _ (S : Setting) (L : Lawful S) (start : List (Cell (S .Total))) (ops : Li
 
     unnamed : (m : Machine (S .Total)) → HoldsOf m → occurs i (m .log) ≡ 0 → finishedIn (m .rows) i ≡ false
     unfolding HoldsOf
-    unnamed m H e = go (finishedIn (m .rows) i) (sym (H .once i) ∙ e)
-      where
-        go : (z : Bool) → _≡_ {A = ℕ} (cond z 1 0) 0 → z ≡ false
-        go true q = absurd (omega arith)
-        go false q = refl
+    unnamed m H e = none-false (finishedIn (m .rows) i) (sym (H .once i) ∙ e)
 
     pub unfinished-untouched : occurs i (foldl (entry S) (entry S before i) later .log) ≡ 0 → entry S before i .cells ≡ before .cells
     unfolding run

@@ -25,6 +25,7 @@ use Rattle.semantics.specs.Refusals.{Call, callOf}
 use Rattle.semantics.specs.Run.{Result, over, machine, answerOf, outcomeOf, acceptedResult, refusalOf, refusedResult, resultIf, runResult}
 use Rattle.semantics.specs.Demands.{logOf, replayOf, Linearizable, TotalsKept, Untouched, afterEntries, AcceptedCall, Demands}
 use Rattle.semantics.proofs.Lists.{map-on}
+use Rattle.semantics.proofs.Counts.{none-false}
 use Rattle.semantics.proofs.Over.{over-get}
 use Rattle.semantics.proofs.Linearizability.{Linearized, linearizable, unfinished-untouched}
 use Rattle.semantics.proofs.TotalsHold.{totals-rule}
@@ -62,12 +63,6 @@ finished-below (r ∷ rows) (suc i) e = suc-le-suc (finished-below rows i e)
 one-true : (z : Bool) → 0 < cond z 1 0 → z ≡ true
 one-true true h = refl
 one-true false h = absurd (omega arith)
-
-one-or-none : (a b : Bool) → _≡_ {A = ℕ} (cond a 1 0) (cond b 1 0) → a ≡ b
-one-or-none true true e = refl
-one-or-none true false e = absurd (omega arith)
-one-or-none false true e = absurd (omega arith)
-one-or-none false false e = refl
 
 at-most-one : {n : ℕ} (z : Bool) → n ≡ cond z 1 0 → n ≤ 1
 at-most-one true e = omega arith
@@ -162,7 +157,7 @@ module _ (call : Call) (ok : Passed call) where
           → getD (over (map answerOf (m .rows)) answers) i 0 ≡ 0
       unwritten i h e =
           answer-at (m .rows) answers i (omega (arith, same-length))
-          ∙ unanswered (m .rows) i (one-or-none (finishedIn (m .rows) i) false (sym (lin schedule .once i) ∙ e))
+          ∙ unanswered (m .rows) i (none-false (finishedIn (m .rows) i) (sym (lin schedule .once i) ∙ e))
 
       words-linearizable : Linearizable (call .cells) (call .operations) result
       unfolding acceptedResult outcomeOf replayOf

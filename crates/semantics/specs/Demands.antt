@@ -50,9 +50,10 @@ module _ (cells operations : List ℕ) where
     pub distinct : (k i j : ℕ) (t u : Total) → keyed k (getD (cellsOf (r .cells)) i empty) ≡ some t
         → keyed k (getD (cellsOf (r .cells)) j empty) ≡ some u → i ≡ j
 
-  -- Demand 3, of the result r of a whole schedule. "Nobody who picks the schedule can change a total": with only finds and adds, every
-  -- operation finished and cells that suffice, each room has its starting total and all amounts added to it, summed as whole numbers before
-  -- the sum is held; or it is not there.
+  -- Demand 3, of the result r of a whole schedule. "Nobody who picks the schedule can change a total." "It is a single claim about the whole
+  -- schedule and not one for each step." With only finds and adds, every operation finished ("so that done equals the number of rows") and
+  -- cells that suffice, each room has in "the final cells .. as the run leaves them" its starting total and all amounts added to it, summed
+  -- as whole numbers before the sum is held; or it is not there.
   unfoldable pub TotalsKept : Result → Type 0
   TotalsKept r =
       T (onlyFindsAndAdds (operationsOf operations))
