@@ -74,12 +74,6 @@ pub absorbs : (p q : Bool) → (T p → T q) → (p || q) ≡ q
 absorbs p q f = same-test (p || q) q (λ t. either p q t f (λ u. u)) (right p q)
 
 -- the test of two cells, by the test of two totals
-pub same-cell-refl : (S : Setting) → ((t : S .Total) → T (S .same t t)) → (x : Cell (S .Total)) → T (sameCell S x x)
-unfolding sameCell
-same-cell-refl S h empty = tt
-same-cell-refl S h tombstone = tt
-same-cell-refl S h (live k t) = join (eqb k k) (S .same t t) (eqb-refl k) (h t)
-
 pub same-cell-sound : (S : Setting) → ((t u : S .Total) → T (S .same t u) → t ≡ u) → (x y : Cell (S .Total)) → T (sameCell S x y) → x ≡ y
 unfolding sameCell
 same-cell-sound S h empty empty e = refl

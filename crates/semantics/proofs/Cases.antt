@@ -11,6 +11,8 @@ use Rattle.semantics.specs.Basics as Basics
 use Rattle.semantics.specs.Totals as Totals
 use Rattle.semantics.specs.Cells as Cells
 use Rattle.semantics.specs.Words as Words
+use Rattle.semantics.specs.Narrow as Narrow
+use Rattle.semantics.specs.Narrow.{narrowWidth}
 use Rattle.semantics.specs.Step as Step
 use Rattle.semantics.specs.TotalsRule as TotalsRule
 use Rattle.semantics.specs.Refusals as Refusals
@@ -22,6 +24,7 @@ use Rattle.semantics.specs.RunFile as RunFile
 use Rattle.semantics.specs.RunFile.{Contents}
 use Rattle.semantics.specs.Listing as Listing
 use Rattle.semantics.specs.Response as Response
+use Rattle.semantics.proofs.Narrow.{narrow-packing}
 use Rattle.semantics.proofs.WordsHold.{demands}
 use Rattle.semantics.specs.Cases as Cases
 use Rattle.semantics.specs.Cases.{resultOf, holds, cases, inFull, longer, edge, Meets}
@@ -33,28 +36,28 @@ unfolding
     Cases.resultWith Cases.leftBy Cases.sameList Cases.readBy Cases.refusedBy Cases.lent Cases.lentAs Cases.readingOf
     Cases.starred Cases.inFullFile Cases.inFullText Cases.goneFile Cases.goneText
     Cases.furtherNumbers Cases.furtherCalls Cases.furtherFiles Cases.furtherTexts Cases.furtherRuns Cases.everyFile Cases.everyText
-    Totals.heldAt Totals.plusAt Totals.narrow Totals.sameTotal
+    Totals.heldAt Totals.plusAt Totals.sameTotal Narrow.narrow
     Cells.codeOf Cells.totalOf Cells.keyed Cells.lookup Cells.isEmpty Cells.usedCells
     orElse Basics.allOf Basics.anyOf Basics.countOf Basics.isSome Basics.firstFrom Basics.firstBelow Basics.someBelow
-    Words.isPowerFrom Words.sizeAllowed Words.homeIn Words.isLiveKey Words.tombstoneWord Words.cellAllowed Words.decode Words.encode
-    Words.kindOf Words.decodeOperation Words.takesAmount Words.isKind Words.operationAllowed Words.carried Words.answerWord
-    Words.roomHome Words.roomSum
+    Words.isPowerFrom Words.sizeAllowed Words.homeIn Words.isLiveKey Words.cellFrom Words.decode Words.encode
+    Words.kindOf Words.decodeOperation Words.takesAmount Words.isKind Words.carried Words.answerWord
+    Narrow.tombstoneWord Narrow.cellAllowed Narrow.operationAllowed Narrow.roomHome Narrow.roomSum
     Step.sight Step.makes Step.fresh Step.after Step.countLost Step.logged Step.idled Step.answered Step.doneCount Step.effect
     Step.readOwn Step.read Step.exhausted Step.bounded Step.heldCell Step.fateCell Step.newCell Step.swapAnswer Step.sameCell
-    Step.swapped Step.step Step.passed Step.placeOf Step.taken Step.act Step.entered Step.entry Step.freshRow Step.begin Step.run
+    Step.swapped Step.step Step.passed Step.placeOf Step.taken Step.actIn Step.actOf Step.applied Step.entry Step.freshRow Step.begin Step.run
     TotalsRule.isAdd TotalsRule.isFindOrAdd TotalsRule.onlyFindsAndAdds TotalsRule.isPresent TotalsRule.addsTo TotalsRule.isAdded
     TotalsRule.countsAt TotalsRule.roomsToMake TotalsRule.CellsSuffice
-    Refusals.firstMet Refusals.atFirst Refusals.isRepeated Refusals.isUnreachable Refusals.sizeNotAllowed Refusals.tooMany
+    Refusals.firstMet Refusals.atFirst Refusals.standsLower Refusals.isRepeated Refusals.isCutOff Refusals.isUnreachable Refusals.sizeNotAllowed Refusals.tooMany
     Refusals.tooShort Refusals.badCell Refusals.badOperation Refusals.badEntry Refusals.repeatedKey Refusals.unreachableKey
     Refusals.runConditions Refusals.runRefusal
     Run.over Run.machine Run.answerOf Run.outcomeOf Run.acceptedResult Run.refusedResult Run.resultIf Run.runResult
     Text.text Text.decimalIn Text.decimal Text.textsBelow
     Records.faultAt Records.goesOn Records.recordsFrom Records.records Records.recordConditions
-    RunFile.hasMark RunFile.markAt RunFile.partOf RunFile.mayFollow RunFile.sizeOf RunFile.isBodyWrong RunFile.isOneTooMany RunFile.past
+    RunFile.hasMark RunFile.markIn RunFile.markAt RunFile.mayFollow RunFile.past
     RunFile.markCut RunFile.markWrong RunFile.bodyCut RunFile.bodyWrong RunFile.oneTooMany RunFile.conditionsAt RunFile.nextOf
-    RunFile.sliceTooShort RunFile.fileTooLong RunFile.readerConditions RunFile.readerRefusal RunFile.loaded RunFile.load RunFile.contents
+    RunFile.sliceTooShort RunFile.fileTooLong RunFile.fileConditions RunFile.fileRefusal RunFile.readerRefusal RunFile.load RunFile.contents
     RunFile.acceptedReading RunFile.refusedReading RunFile.reading
-    Listing.kindWord Listing.codeWord Listing.totalText Listing.refusalText Listing.countsText Listing.operationText
+    Listing.kindWord Listing.codeWord Listing.narrowText Listing.refusalText Listing.countsText Listing.operationText
     Listing.answerText Listing.rowText Listing.logText Listing.contentsText Listing.cellText Listing.runText Listing.listing
     Response.runOf Response.listed Response.response
 computed = tt
@@ -72,9 +75,9 @@ met = (
 )
 
 pub speaks : (j : Contents) → Meets j → (k : ℕ)
-    → Cells.lookup k (Demands.cellsOf (resultOf j .cells))
-    ≡ TotalsRule.expected (Demands.settingOf (j .cells)) (Demands.cellsOf (j .cells)) (Demands.operationsOf (j .operations)) k
+    → Cells.lookup k (Demands.cellsOf narrowWidth (resultOf j .cells))
+    ≡ TotalsRule.expected (Words.settingOf narrowWidth (length (j .cells))) (Demands.cellsOf narrowWidth (j .cells)) (Demands.operationsOf narrowWidth (j .operations)) k
 unfolding resultOf Demands.TotalsKept
 speaks j h =
     let slice : List ℕ = replicate (length (j .operations)) 9 in
-    demands (j .cells) (j .operations) (j .schedule) slice slice .accepted (h .accepted) .totals (h .only) (h .finished) (h .suffice)
+    demands narrow-packing (j .cells) (j .operations) (j .schedule) slice slice .accepted (h .accepted) .totals (h .only) (h .finished) (h .suffice)

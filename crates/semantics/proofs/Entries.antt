@@ -11,7 +11,7 @@ use mathlib.Core.Option.{Option, none, some}
 use lib.ListN.{set, getElem?}
 use Rattle.semantics.specs.Basics.{isSome, occurs, countOf}
 use Rattle.semantics.specs.Cells.{Setting, Operation}
-use Rattle.semantics.specs.Step.{Turn, passes, holds, loses, finishes, logged, Pending, State, pending, finished, Row, Machine, idled, taken, act, entered, entry}
+use Rattle.semantics.specs.Step.{Turn, passes, holds, loses, finishes, logged, Pending, State, pending, finished, Row, Machine, idled, taken, Act, idles, steps, actIn, actOf, applied, entry}
 use Rattle.semantics.specs.Step.{answered, answerIn, finishedIn}
 use Rattle.semantics.proofs.Lists.{elem-set-same, elem-set-other}
 use Rattle.semantics.proofs.Counts.{count-snoc}
@@ -20,14 +20,14 @@ module _ (S : Setting) (P : Machine (S .Total) → Type 0) where
   pub by-entry : (m : Machine (S .Total)) (i : ℕ) → P (idled m)
       → ((r : Row (S .Total)) (s : Pending (S .Total)) → getElem? (m .rows) i ≡ some r → r .state ≡ pending s → P (taken S m i (r .operation) s))
       → P (entry S m i)
-  unfolding entry entered act
-  by-entry m i idle steps = named (getElem? (m .rows) i) refl
+  unfolding entry applied actOf actIn
+  by-entry m i idle step = named (getElem? (m .rows) i) refl
     where
-      acts : (r : Row (S .Total)) → getElem? (m .rows) i ≡ some r → (s : State (S .Total)) → r .state ≡ s → P (act S m i (r .operation) s)
+      acts : (r : Row (S .Total)) → getElem? (m .rows) i ≡ some r → (s : State (S .Total)) → r .state ≡ s → P (applied S m i (actIn (r .operation) s))
       acts r at (finished a) e = idle
-      acts r at (pending s) e = steps r s at e
+      acts r at (pending s) e = step r s at e
 
-      named : (o : Option (Row (S .Total))) → getElem? (m .rows) i ≡ o → P (entered S m i o)
+      named : (o : Option (Row (S .Total))) → getElem? (m .rows) i ≡ o → P (applied S m i (actOf o))
       named none at = idle
       named (some r) at = acts r at (r .state) refl
 
@@ -72,23 +72,23 @@ module _ {T : Type 0} (rows : List (Row T)) (i : ℕ) (r′ : Row T) where
 -- an entry that names a finished row is idle, and one that names an unfinished row is a step of it
 module _ (S : Setting) (m : Machine (S .Total)) (i : ℕ) where
   pub entry-idles : finishedIn (m .rows) i ≡ true → entry S m i ≡ idled m
-  unfolding entry entered act finishedIn answerIn answered isSome
+  unfolding entry applied actOf actIn finishedIn answerIn answered isSome
   entry-idles = named (getElem? (m .rows) i)
     where
-      acts : (o : Operation (S .Total)) (s : State (S .Total)) → isSome (answered s) ≡ true → act S m i o s ≡ idled m
+      acts : (o : Operation (S .Total)) (s : State (S .Total)) → isSome (answered s) ≡ true → applied S m i (actIn o s) ≡ idled m
       acts o (pending s) h = absurd (true≢false (sym h))
       acts o (finished a) h = refl
 
-      named : (o : Option (Row (S .Total))) → isSome (answerIn o) ≡ true → entered S m i o ≡ idled m
+      named : (o : Option (Row (S .Total))) → isSome (answerIn o) ≡ true → applied S m i (actOf o) ≡ idled m
       named none h = refl
       named (some r) h = acts (r .operation) (r .state) h
 
   pub entry-steps : (r : Row (S .Total)) → getElem? (m .rows) i ≡ some r → finishedIn (m .rows) i ≡ false
       → (s : Pending (S .Total)) × (r .state ≡ pending s) × (entry S m i ≡ taken S m i (r .operation) s)
-  unfolding entry entered act finishedIn answerIn answered isSome
+  unfolding entry applied actOf actIn finishedIn answerIn answered isSome
   entry-steps r at h = acts (r .state) refl (sym (ap (λ o. isSome (answerIn o)) at) ∙ h)
     where
       acts : (s : State (S .Total)) → r .state ≡ s → isSome (answered (r .state)) ≡ false
           → (p : Pending (S .Total)) × (r .state ≡ pending p) × (entry S m i ≡ taken S m i (r .operation) p)
-      acts (pending s) e f = (s, e, ap (entered S m i) at ∙ ap (act S m i (r .operation)) e)
+      acts (pending s) e f = (s, e, ap (λ (o : Option (Row (S .Total))). applied S m i (actOf o)) at ∙ ap (λ (s : State (S .Total)). applied S m i (actIn (r .operation) s)) e)
       acts (finished a) e f = absurd (true≢false (sym (ap (λ s. isSome (answered s)) e) ∙ f))

@@ -1,4 +1,4 @@
--- What the theorems ask of a setting and of the starting cells. Narrow.antt shows the first of every allowed table size, and Start.antt the
+-- What the theorems ask of a setting and of the starting cells. Sizes.antt shows the first of every allowed table size, and Start.antt the
 -- second of all cells that the run's checks accept, so that neither is left as an assumption.
 -- Assumes nothing.
 use mathlib.Core.Path.{_≡_}

@@ -1,9 +1,11 @@
--- The longest texts: of a number, a word, a line, and of a run of at most 64 operations and 4,096 cells, whatever the words.
+-- The longest texts: of a number, a word, a line, and of a run of at most 64 operations and 4,096 cells, whatever the words, at any width
+-- whose totals have texts of a known length.
 -- Assumes nothing.
 use mathlib.Core.Path.{_≡_, refl, sym}
 use Prim.Native.Nat.{ℕ, zero, suc, _+_, _-_, _*_, _/_, _%_, _^_, _≤_, _<_, min}
 use mathlib.Core.Bool.{Bool, true, false, cond}
 use mathlib.Core.List.{List, [], _∷_, _++_}
+use native.Mathlib.Nat.{mul-le-mul-left, mul-suc}
 use native.Mathlib.Omega.{arith}
 use native.Mathlib.Decide.{decLt}
 use lib.Dec.{T, eqb, ltb, leb, leb→le}
@@ -11,9 +13,13 @@ use lib.ListN.{length, getD, length-append}
 use borrow.Author.Tests.{ltb-false, le-leb, eqb-true}
 use Rattle.semantics.specs.Basics.{allOf}
 use Rattle.semantics.specs.declared.Outcome.{Outcome}
-use Rattle.semantics.specs.Words.{tombstoneWord, keyOf, totalBits, operationKey, amountBits, kindBits}
-use Rattle.semantics.specs.Text.{text, decimalIn, decimal, textsBelow, mostText}
-use Rattle.semantics.specs.Listing.{kindWords, kindWord, codeWords, codeWord, totalText, refusalText, countsText, operationText, answerText, rowText, logText, contentsText, cellText, runText, listing}
+use Rattle.semantics.specs.declared.Total.{Total}
+use Rattle.semantics.specs.Cells.{tombstone}
+use Rattle.semantics.specs.Words.{Width, tombstoneKey, encode}
+use Rattle.semantics.specs.Narrow.{narrow, narrowWidth}
+use Rattle.semantics.specs.Wide.{flaggedIn, wideWidth}
+use Rattle.semantics.specs.Text.{text, decimalIn, decimal, textsBelow}
+use Rattle.semantics.specs.Listing.{kindWords, kindWord, codeWords, codeWord, narrowText, wideText, refusalText, countsText, operationText, answerText, rowText, logText, contentsText, cellText, runText, listing}
 use Rattle.semantics.proofs.Booleans.{both}
 
 -- a text of at most n bytes
@@ -78,13 +84,46 @@ code : (n : ℕ) → Within 10 (codeWord n)
 unfolding codeWord text allOf
 code n = one-of 10 codeWords n tt
 
-total : (n : ℕ) → n < 65536 → Within 6 (totalText n)
-unfolding totalText text
-total n h = go (eqb n 65535)
+-- how long the texts of a width's totals are, at most m, and that its operations' keys have five digits
+pub record Short (W : Width) (totalText : Total → List ℕ) (m : ℕ) : Type 0 where
+  pub key : (w : ℕ) → W .operationKey w < 10 ^ 5
+  pub amount : (w : ℕ) → Within m (totalText (W .amountIn w))
+  pub answer : (w : ℕ) → Within m (totalText (W .answerTotal w))
+  pub total : (w : ℕ) → Within m (totalText (W .totalIn w))
+
+narrow-total : (n : ℕ) → n < 65536 → Within 6 (narrowText (narrow n))
+unfolding narrowText narrow text
+narrow-total n h = go (eqb n 65535)
   where
     go : (z : Bool) → Within 6 (cond z (text "pinned") (decimal n))
     go true = within (text "pinned")
     go false = looser 6 (omega arith) (number 4 n (omega arith))
+
+pub narrow-short : Short narrowWidth narrowText 6
+narrow-short =
+    record {
+      key = λ w. omega arith;
+      amount = λ w. narrow-total (w % 65536) (omega arith);
+      answer = λ w. narrow-total (w % 65536) (omega arith);
+      total = λ w. narrow-total (w % 65536) (omega arith);
+    }
+
+wide-total : (w : ℕ) → Within 18 (wideText (flaggedIn w))
+unfolding wideText text
+wide-total w = go (eqb (w / 2 ^ 32 % 2) 1)
+  where
+    n : ℕ
+    n = w % 2 ^ 32
+
+    ten : Within 10 (decimal n)
+    ten = number 9 n (omega arith)
+
+    go : (z : Bool) → Within 18 (cond z (text "atleast " ++ decimal n) (decimal n))
+    go true = within (text "atleast ") then ten
+    go false = looser 18 (omega arith) ten
+
+pub wide-short : Short wideWidth wideText 18
+wide-short = record { key = λ w. omega arith; amount = wide-total; answer = wide-total; total = wide-total }
 
 -- texts one after another, where the bound grows by each
 texts : (n : ℕ) (f : ℕ → List ℕ) (most : ℕ → ℕ) → ((i : ℕ) → i < n → (m : ℕ) × Within m (f i) × (most i + m ≤ most (suc i)))
@@ -105,20 +144,6 @@ counts rows o =
     within (text "rows ") then any-number rows then within (text " done ") then any-number (o .done) then within (text " lost ")
     then any-number (o .lost) then within (text " idle ") then any-number (o .idle) then within (text "\n")
 
-operation : (i w : ℕ) → i < 100 → Within 26 (operationText i w)
-unfolding operationText text
-operation i w h =
-    within (text "row ") then number 1 i h then within (text " ") then kind (kindBits w) then within (text " ")
-    then number 4 (operationKey w) (omega arith) then within (text " ") then total (amountBits w) (omega arith)
-
-answer : (a : ℕ) → Within 18 (answerText a)
-unfolding answerText text
-answer a = within (text " ") then code (a / 65536) then within (text " ") then total (a % 65536) (omega arith)
-
-row : (i w a : ℕ) → i < 100 → Within 45 (rowText i w a)
-unfolding rowText text
-row i w a h = operation i w h then answer a then within (text "\n")
-
 -- the numbers of a log have 20 digits at most, since nothing here says that they are rows
 entries : (done : ℕ) (l : List ℕ) → min done (length l) ≤ 64 → Within 1348 (logText done l)
 unfolding logText text
@@ -129,61 +154,85 @@ entries done l h =
     then looser 1344 below (texts n (λ i. text " " ++ decimal (getD l i 0)) (λ i. 21 * i) (λ i b. (21, within (text " ") then any-number (getD l i 0), omega arith)))
     then within (text "\n")
 
-held : (w : ℕ) → w < 2 ^ 32 → Within 13 (contentsText w)
-unfolding contentsText text
-held w b = go (eqb w tombstoneWord)
-  where
-    go : (z : Bool) → Within 13 (cond z (text " gone") (text " " ++ decimal (keyOf w) ++ text " " ++ totalText (totalBits w)))
-    go true = looser 13 (omega arith) (within (text " gone"))
-    go false = within (text " ") then number 4 (keyOf w) (omega arith) then within (text " ") then total (totalBits w) (omega arith)
+module _ {W : Width} {totalText : Total → List ℕ} {m : ℕ} (short : Short W totalText m) where
+  operation : (i w : ℕ) → i < 100 → Within (20 + m) (operationText W totalText i w)
+  unfolding operationText text
+  operation i w h =
+      within (text "row ") then number 1 i h then within (text " ") then kind (W .kindBits w) then within (text " ")
+      then number 4 (W .operationKey w) (short .key w) then within (text " ") then short .amount w
 
-cell : (i d w : ℕ) → i < 10 ^ suc d → w < 2 ^ 32 → Within (19 + suc d) (cellText i w)
-unfolding cellText text
-cell i d w h b = go (eqb w 0)
-  where
-    go : (z : Bool) → Within (19 + suc d) (cond z [] (text "cell " ++ decimal i ++ contentsText w ++ text "\n"))
-    go true = record { most = omega arith }
-    go false = looser (19 + suc d) (omega arith) (within (text "cell ") then number d i h then held w b then within (text "\n"))
+  answer : (a : ℕ) → Within (12 + m) (answerText W totalText a)
+  unfolding answerText text
+  answer a = within (text " ") then code (W .answerCode a) then within (text " ") then short .answer a
 
--- a cell's number has three digits, from 1,000 on four
-cell-lines : (c : ℕ) (l : List ℕ) → c ≤ 4096 → ((i : ℕ) → getD l i 0 < 2 ^ 32) → Within 93208 (textsBelow c (λ i. cellText i (getD l i 0)))
-cell-lines c l h b = looser 93208 (omega arith) (texts c (λ i. cellText i (getD l i 0)) (λ i. 23 * i - min i 1000) grows)
-  where
-    grows : (i : ℕ) → i < c → (m : ℕ) × Within m (cellText i (getD l i 0)) × ((23 * i - min i 1000) + m ≤ 23 * suc i - min (suc i) 1000)
-    grows i less =
-        elim (decLt i 1000) [
-          | yes small ↦ (22, cell i 2 (getD l i 0) small (b i), omega arith)
-          | no large ↦ (23, cell i 3 (getD l i 0) (omega arith) (b i), omega arith)
-        ]
+  row : (i w a : ℕ) → i < 100 → Within (33 + 2 * m) (rowText W totalText i w a)
+  unfolding rowText text
+  row i w a h = looser (33 + 2 * m) (omega arith) (operation i w h then answer a then within (text "\n"))
 
-rows : (n : ℕ) (operations answers : List ℕ) → n ≤ 64 → Within 2880 (textsBelow n (λ i. rowText i (getD operations i 0) (getD answers i 0)))
-rows n operations answers h =
-    looser 2880 (omega arith)
-    (texts n (λ i. rowText i (getD operations i 0) (getD answers i 0)) (λ i. 45 * i)
-    (λ i b. (45, row i (getD operations i 0) (getD answers i 0) (omega arith), omega arith)))
+  held : (w : ℕ) → W .keyOf w ≤ tombstoneKey → Within (7 + m) (contentsText W totalText w)
+  unfolding contentsText text
+  held w b = go (eqb w (encode W tombstone))
+    where
+      go : (z : Bool) → Within (7 + m) (cond z (text " gone") (text " " ++ decimal (W .keyOf w) ++ text " " ++ totalText (W .totalIn w)))
+      go true = looser (7 + m) (omega arith) (within (text " gone"))
+      go false = within (text " ") then number 4 (W .keyOf w) (omega arith) then within (text " ") then short .total w
+
+  cell : (i d w : ℕ) → i < 10 ^ suc d → W .keyOf w ≤ tombstoneKey → Within (13 + m + suc d) (cellText W totalText i w)
+  unfolding cellText text
+  cell i d w h b = go (eqb w 0)
+    where
+      go : (z : Bool) → Within (13 + m + suc d) (cond z [] (text "cell " ++ decimal i ++ contentsText W totalText w ++ text "\n"))
+      go true = record { most = omega arith }
+      go false = looser (13 + m + suc d) (omega arith) (within (text "cell ") then number d i h then held w b then within (text "\n"))
+
+  -- a cell's number has three digits, from 1,000 on four
+  cell-lines : (c : ℕ) (l : List ℕ) → c ≤ 4096 → ((i : ℕ) → W .keyOf (getD l i 0) ≤ tombstoneKey)
+      → Within (68632 + m * 4096) (textsBelow c (λ i. cellText W totalText i (getD l i 0)))
+  cell-lines c l h b =
+      looser (68632 + m * 4096) (omega (arith, mul-le-mul-left m h))
+      (texts c (λ i. cellText W totalText i (getD l i 0)) (λ i. 17 * i + m * i - min i 1000) grows)
+    where
+      grows : (i : ℕ) → i < c
+          → (n : ℕ) × Within n (cellText W totalText i (getD l i 0)) × ((17 * i + m * i - min i 1000) + n ≤ 17 * suc i + m * suc i - min (suc i) 1000)
+      grows i less =
+          elim (decLt i 1000) [
+            | yes small ↦ (13 + m + 3, cell i 2 (getD l i 0) small (b i), omega (arith, mul-suc m i))
+            | no large ↦ (13 + m + 4, cell i 3 (getD l i 0) (omega arith) (b i), omega (arith, mul-suc m i))
+          ]
+
+  rows : (n : ℕ) (operations answers : List ℕ) → n ≤ 64
+      → Within (2112 + m * 128) (textsBelow n (λ i. rowText W totalText i (getD operations i 0) (getD answers i 0)))
+  rows n operations answers h =
+      looser (2112 + m * 128) (omega (arith, mul-le-mul-left m h))
+      (texts n (λ i. rowText W totalText i (getD operations i 0) (getD answers i 0)) (λ i. 33 * i + 2 * (m * i))
+      (λ i b. (33 + 2 * m, row i (getD operations i 0) (getD answers i 0) (omega arith), omega (arith, mul-suc m i))))
 
 -- what bounds the text of a run that is not refused
-pub record Small (o : Outcome) (operations log cells : List ℕ) : Type 0 where
+pub record Small (W : Width) (o : Outcome) (operations log cells : List ℕ) : Type 0 where
   pub rows : length operations ≤ 64
   pub entries : min (o .done) (length log) ≤ 64
   pub size : length cells ≤ 4096
-  pub words : (i : ℕ) → getD cells i 0 < 2 ^ 32
+  pub keys : (i : ℕ) → W .keyOf (getD cells i 0) ≤ tombstoneKey
 
-module _ (o : Outcome) (operations answers log cells : List ℕ) where
-  run-within : Small o operations log cells → Within mostText (runText o operations answers log cells)
+-- so long at most, where a total's text has m bytes
+abbrev pub mostListing : ℕ → ℕ
+mostListing m = 72196 + m * 4224
+
+module _ {W : Width} {totalText : Total → List ℕ} {m : ℕ} (short : Short W totalText m) (o : Outcome) (operations answers log cells : List ℕ) where
+  run-within : Small W o operations log cells → Within (mostListing m) (runText W totalText o operations answers log cells)
   unfolding runText
   run-within s =
-      looser mostText (omega arith)
+      looser (mostListing m) (omega arith)
       (counts (length operations) o
-      then rows (length operations) operations answers (s .rows)
+      then rows short (length operations) operations answers (s .rows)
       then entries (o .done) log (s .entries)
-      then cell-lines (length cells) cells (s .size) (s .words))
+      then cell-lines short (length cells) cells (s .size) (s .keys))
 
-  pub listing-within : (o .number ≡ 0 → Small o operations log cells) → Within mostText (listing o operations answers log cells)
+  pub listing-within : (o .number ≡ 0 → Small W o operations log cells) → Within (mostListing m) (listing W totalText o operations answers log cells)
   unfolding listing
   listing-within small = go (eqb (o .number) 0) refl
     where
       go : (z : Bool) → eqb (o .number) 0 ≡ z
-          → Within mostText (cond z (runText o operations answers log cells) (refusalText (o .number) (o .place)))
+          → Within (mostListing m) (cond z (runText W totalText o operations answers log cells) (refusalText (o .number) (o .place)))
       go true e = run-within (small (eqb-true (o .number) 0 e))
-      go false e = looser mostText (omega arith) (refusal (o .number) (o .place))
+      go false e = looser (mostListing m) (omega arith) (refusal (o .number) (o .place))

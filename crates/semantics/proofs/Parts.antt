@@ -1,13 +1,20 @@
 -- A part of a file that is read in its place: where its bytes are the file's, so are the numbers and the mark that they make.
 -- Assumes nothing.
-use mathlib.Core.Path.{_≡_, sym, ap, ap₂, _∙_}
+use mathlib.Core.Path.{_≡_, refl, sym, ap, ap₂, _∙_}
 use Prim.Native.Nat.{ℕ, _+_, _-_, _*_, _≤_, _<_}
+use mathlib.Core.Bool.{Bool, true, false}
 use mathlib.Core.List.{List}
 use native.Mathlib.Nat.{add-assoc, add-zero}
 use native.Mathlib.Omega.{arith}
+use lib.Dec.{eqb, ltb}
 use lib.ListN.{take, drop}
 use lib.Seq.{getD-take, getD-drop}
-use Rattle.semantics.specs.RunFile.{byteAt, pairAt, hasMark, markAt}
+use Rattle.semantics.specs.RunFile.{Layout, layoutOf, flaggedAt, byteAt, pairAt, hasMark, markIn, markAt}
+
+-- a total has two to five bytes
+pub total-bytes : (flagged : Bool) → (2 ≤ layoutOf flagged .totalSize) × (layoutOf flagged .totalSize ≤ 5)
+total-bytes true = (omega arith, omega arith)
+total-bytes false = (omega arith, omega arith)
 
 -- the first n bytes of a part are those of a file from an offset on
 pub record Agrees (n : ℕ) (part file : List ℕ) (at : ℕ) : Type 0 where
@@ -24,6 +31,23 @@ module _ {n : ℕ} {part file : List ℕ} {at : ℕ} (same : Agrees n part file 
   pub pair-agrees : (i : ℕ) → i + 2 ≤ n → pairAt part i ≡ pairAt file (at + i)
   pair-agrees i h = ap₂ (λ a b. a * 256 + b) (same .byte i (omega arith)) (same .byte (i + 1) (omega arith) ∙ ap (byteAt file) (sym (add-assoc at i 1)))
 
-  pub mark-agrees : 2 ≤ n → markAt part 0 ≡ markAt file at
-  unfolding markAt hasMark
-  mark-agrees h = rw (same .byte 0 (omega arith), same .byte 1 (omega arith), add-zero)
+  pub mark-agrees : 2 ≤ n → (L : Layout) → markAt L part 0 ≡ markAt L file at
+  unfolding markAt markIn hasMark
+  mark-agrees h L = rw (same .byte 0 (omega arith), same .byte 1 (omega arith), add-zero)
+
+  pub total-agrees : (flagged : Bool) (i : ℕ) → i < n → layoutOf flagged .isTotalWrong part i ≡ layoutOf flagged .isTotalWrong file (at + i)
+  total-agrees true i h = ap (ltb 1) (same .byte i h)
+  total-agrees false i h = refl
+
+  -- a part of the part
+  pub inner-agrees : (m i : ℕ) → i + m ≤ n → Agrees m (take (i + m - i) (drop i part)) file (at + i)
+  inner-agrees m i h =
+      record { byte = λ j k. part-agrees m part i .byte j k ∙ same .byte (i + j) (omega arith) ∙ ap (byteAt file) (sym (add-assoc at i j)) }
+
+-- a total with its flag
+pub flagged-agrees : {part file : List ℕ} {at : ℕ} → Agrees 5 part file at → flaggedAt part 0 ≡ flaggedAt file at
+flagged-agrees {file = file} {at = at} same =
+    let high = pair-agrees same 1 (omega arith) in
+    let low = pair-agrees same 3 (omega arith) in
+    let flag = same .byte 0 (omega arith) ∙ ap (byteAt file) (add-zero at) in
+    λ i. record { amount = high i * 65536 + low i; saturated = eqb (flag i) 1 }

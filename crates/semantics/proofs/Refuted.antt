@@ -12,15 +12,18 @@ use lib.ListN.{getD, length, replicate}
 use Rattle.semantics.specs.Basics as Basics
 use Rattle.semantics.specs.declared.Outcome.{Outcome}
 use Rattle.semantics.specs.Totals as Totals
-use Rattle.semantics.specs.Totals.{Total, narrow}
+use Rattle.semantics.specs.declared.Total.{Total}
+use Rattle.semantics.specs.Words.{settingOf}
+use Rattle.semantics.specs.Narrow.{narrow, narrowWidth}
 use Rattle.semantics.specs.Cells.{lookup}
 use Rattle.semantics.specs.Map as Map
 use Rattle.semantics.specs.TotalsRule as TotalsRule
-use Rattle.semantics.specs.Words.{cellWord as cell, operationWord as operation, packedAnswer as answer}
+use Rattle.semantics.specs.Narrow.{cellWord as cell, operationWord as operation, packedAnswer as answer}
 use Rattle.semantics.specs.Run.{Result, machine, acceptedResult, runResult, madeOutcome, refusedOutcome}
-use Rattle.semantics.specs.Demands.{settingOf, cellsOf, operationsOf, replayOf, Linearizable, TotalsKept, Untouched, afterEntries, Demands}
+use Rattle.semantics.specs.Demands.{cellsOf, operationsOf, replayOf, Linearizable, TotalsKept, Untouched, afterEntries, Demands}
 use Rattle.semantics.specs.Cases.{table, at, job, resultOf, fullTable}
 use Rattle.semantics.proofs.Booleans.{eq→eqb}
+use Rattle.semantics.proofs.Narrow.{narrow-packing}
 use Rattle.semantics.proofs.WordsHold.{demands}
 use Rattle.semantics.proofs.Cases.{computed}
 
@@ -67,74 +70,74 @@ abbrev both : List ℕ
 both = answer 4 40 ∷ answer 4 45 ∷ []
 
 -- what it leaves is right
-right : runResult start adds racing slices slices ≡ left added both (0 ∷ 1 ∷ []) 2
+right : runResult narrowWidth start adds racing slices slices ≡ left added both (0 ∷ 1 ∷ []) 2
 unfolding computed
 right = refl
 
 -- and the demands speak of it on the way, not at the end alone: of its first four entries, the last of which is the lost swap
 abbrev midway : Result
-midway = afterEntries start adds racing slices slices 4
+midway = afterEntries narrowWidth start adds racing slices slices 4
 
-midway-rules : midway ≡ acceptedResult (machine start adds (0 ∷ 1 ∷ 0 ∷ 1 ∷ [])) slices slices
+midway-rules : midway ≡ acceptedResult narrowWidth (machine narrowWidth start adds (0 ∷ 1 ∷ 0 ∷ 1 ∷ [])) slices slices
 unfolding computed
-midway-rules = demands start adds racing slices slices .accepted refl .rules 4
+midway-rules = demands narrow-packing start adds racing slices slices .accepted refl .rules 4
 
-midway-linearizable : Linearizable start adds midway
+midway-linearizable : Linearizable narrowWidth start adds midway
 unfolding computed
-midway-linearizable = demands start adds racing slices slices .accepted refl .linearizable 4
+midway-linearizable = demands narrow-packing start adds racing slices slices .accepted refl .linearizable 4
 
-midway-untouched : midway .cells ≡ afterEntries start adds racing slices slices 3 .cells
+midway-untouched : midway .cells ≡ afterEntries narrowWidth start adds racing slices slices 3 .cells
 unfolding replayed
-midway-untouched = demands start adds racing slices slices .accepted refl .untouched 4 3 (lit≤ tt) (lit≤ tt) refl
+midway-untouched = demands narrow-packing start adds racing slices slices .accepted refl .untouched 4 3 (lit≤ tt) (lit≤ tt) refl
 
 -- Demand 2, clause by clause.
 -- "Each finished answer .. [is] of a one-at-a-time map doing the finished operations in log order": another old total, another code, and the log
 -- the other way round
-an-old-total : Linearizable start adds (left added (answer 4 40 ∷ answer 4 40 ∷ []) (0 ∷ 1 ∷ []) 2) → ⊥
+an-old-total : Linearizable narrowWidth start adds (left added (answer 4 40 ∷ answer 4 40 ∷ []) (0 ∷ 1 ∷ []) 2) → ⊥
 unfolding replayed
 an-old-total h = differ (ap (λ l. getD l 1 0) (h .answers)) tt
 
-another-code : Linearizable start adds (left added (answer 4 40 ∷ answer 1 45 ∷ []) (0 ∷ 1 ∷ []) 2) → ⊥
+another-code : Linearizable narrowWidth start adds (left added (answer 4 40 ∷ answer 1 45 ∷ []) (0 ∷ 1 ∷ []) 2) → ⊥
 unfolding replayed
 another-code h = differ (ap (λ l. getD l 1 0) (h .answers)) tt
 
-another-order : Linearizable start adds (left added both (1 ∷ 0 ∷ []) 2) → ⊥
+another-order : Linearizable narrowWidth start adds (left added both (1 ∷ 0 ∷ []) 2) → ⊥
 unfolding replayed
 another-order h = differ (ap (λ l. getD l 0 0) (h .answers)) tt
 
 -- "and the live pairs": another total, and a room that is there twice over or not at all
-another-total : Linearizable start adds (left (table 8 (at 4 1 51 ∷ [])) both (0 ∷ 1 ∷ []) 2) → ⊥
+another-total : Linearizable narrowWidth start adds (left (table 8 (at 4 1 51 ∷ [])) both (0 ∷ 1 ∷ []) 2) → ⊥
 unfolding replayed amount
 another-total h = differ (ap amount (h .pairs 1)) tt
 
-a-room-gone : Linearizable start adds (left (table 8 (at 4 65535 0 ∷ [])) both (0 ∷ 1 ∷ []) 2) → ⊥
+a-room-gone : Linearizable narrowWidth start adds (left (table 8 (at 4 65535 0 ∷ [])) both (0 ∷ 1 ∷ []) 2) → ⊥
 unfolding replayed amount
 a-room-gone h = differ (ap amount (h .pairs 1)) tt
 
-a-room-made : Linearizable start adds (left (table 8 (at 4 1 52 ∷ at 5 9 7 ∷ [])) both (0 ∷ 1 ∷ []) 2) → ⊥
+a-room-made : Linearizable narrowWidth start adds (left (table 8 (at 4 1 52 ∷ at 5 9 7 ∷ [])) both (0 ∷ 1 ∷ []) 2) → ⊥
 unfolding replayed amount
 a-room-made h = differ (ap amount (h .pairs 9)) tt
 
 -- the used cells: a tombstone that no remove has left
-a-tombstone-more : Linearizable start adds (left (table 8 (at 4 1 52 ∷ at 5 65535 0 ∷ [])) both (0 ∷ 1 ∷ []) 2) → ⊥
+a-tombstone-more : Linearizable narrowWidth start adds (left (table 8 (at 4 1 52 ∷ at 5 65535 0 ∷ [])) both (0 ∷ 1 ∷ []) 2) → ⊥
 unfolding replayed
 a-tombstone-more h = differ (h .used) tt
 
 -- the log: a row that is not there, a row twice, a row that has an answer and is not in it
-no-such-row : Linearizable start adds (record { outcome = madeOutcome 3 1 0; cells = added; answers = both; log = 0 ∷ 1 ∷ 2 ∷ [] }) → ⊥
+no-such-row : Linearizable narrowWidth start adds (record { outcome = madeOutcome 3 1 0; cells = added; answers = both; log = 0 ∷ 1 ∷ 2 ∷ [] }) → ⊥
 unfolding replayed
 no-such-row h = let b : 2 < 2 = h .named 2 (lit≤ tt) in omega arith
 
-a-row-twice : Linearizable start adds (record { outcome = madeOutcome 3 1 0; cells = added; answers = both; log = 0 ∷ 1 ∷ 1 ∷ [] }) → ⊥
+a-row-twice : Linearizable narrowWidth start adds (record { outcome = madeOutcome 3 1 0; cells = added; answers = both; log = 0 ∷ 1 ∷ 1 ∷ [] }) → ⊥
 unfolding replayed
 a-row-twice h = let b : 2 ≤ 1 = h .once 1 in omega arith
 
-answered-and-not-logged : Linearizable start adds (left (table 8 (at 4 1 45 ∷ [])) both (0 ∷ 9 ∷ []) 1) → ⊥
+answered-and-not-logged : Linearizable narrowWidth start adds (left (table 8 (at 4 1 45 ∷ [])) both (0 ∷ 9 ∷ []) 1) → ⊥
 unfolding replayed
 answered-and-not-logged h = differ (h .unfinished 1 (lit≤ tt) refl) tt
 
 -- "No room has two live cells."
-two-live-cells : Linearizable start adds (left (table 8 (at 4 1 52 ∷ at 5 1 52 ∷ [])) both (0 ∷ 1 ∷ []) 2) → ⊥
+two-live-cells : Linearizable narrowWidth start adds (left (table 8 (at 4 1 52 ∷ at 5 1 52 ∷ [])) both (0 ∷ 1 ∷ []) 2) → ⊥
 unfolding replayed
 two-live-cells h = differ (h .distinct 1 4 5 (narrow 52) (narrow 52) refl refl) tt
 
@@ -158,46 +161,46 @@ unfolding replayed
 a-read-stores h = differ (ap (λ l. getD l 4 0) (h 3 0 (lit≤ tt) (lit≤ tt) refl)) tt
 
 -- Demand 3: a total that is one too small; a sum that wraps; a room that is not there, and one that nobody added to
-a-total-too-small : TotalsKept start adds (left (table 8 (at 4 1 51 ∷ [])) both (0 ∷ 1 ∷ []) 2) → ⊥
+a-total-too-small : TotalsKept narrowWidth start adds (left (table 8 (at 4 1 51 ∷ [])) both (0 ∷ 1 ∷ []) 2) → ⊥
 unfolding replayed amount
 a-total-too-small h = differ (ap amount (h tt refl (lit≤ tt) 1)) tt
 
 abbrev to-the-ceiling : List ℕ
 to-the-ceiling = operation 4 1 40 ∷ operation 4 1 65500 ∷ []
 
-a-sum-that-wraps : TotalsKept (table 8 []) to-the-ceiling (left (table 8 (at 4 1 4 ∷ [])) (answer 2 0 ∷ answer 4 40 ∷ []) (0 ∷ 1 ∷ []) 2) → ⊥
+a-sum-that-wraps : TotalsKept narrowWidth (table 8 []) to-the-ceiling (left (table 8 (at 4 1 4 ∷ [])) (answer 2 0 ∷ answer 4 40 ∷ []) (0 ∷ 1 ∷ []) 2) → ⊥
 unfolding replayed amount
 a-sum-that-wraps h = differ (ap amount (h tt refl (lit≤ tt) 1)) tt
 
-a-room-not-there : TotalsKept (table 8 []) to-the-ceiling (left (table 8 []) (answer 2 0 ∷ answer 4 40 ∷ []) (0 ∷ 1 ∷ []) 2) → ⊥
+a-room-not-there : TotalsKept narrowWidth (table 8 []) to-the-ceiling (left (table 8 []) (answer 2 0 ∷ answer 4 40 ∷ []) (0 ∷ 1 ∷ []) 2) → ⊥
 unfolding replayed amount
 a-room-not-there h = differ (ap amount (h tt refl (lit≤ tt) 1)) tt
 
-a-room-nobody-added : TotalsKept start adds (left (table 8 (at 4 1 52 ∷ at 5 9 7 ∷ [])) both (0 ∷ 1 ∷ []) 2) → ⊥
+a-room-nobody-added : TotalsKept narrowWidth start adds (left (table 8 (at 4 1 52 ∷ at 5 9 7 ∷ [])) both (0 ∷ 1 ∷ []) 2) → ⊥
 unfolding replayed amount
 a-room-nobody-added h = differ (ap amount (h tt refl (lit≤ tt) 9)) tt
 
 -- and each of its hypotheses is needed: a run that meets the other two, and of which the sums are false
 abbrev Sums : List ℕ → List ℕ → Result → Type 0
 Sums cells operations r =
-    (k : ℕ) → lookup k (cellsOf (r .cells)) ≡ TotalsRule.expected (settingOf cells) (cellsOf cells) (operationsOf operations) k
+    (k : ℕ) → lookup k (cellsOf narrowWidth (r .cells)) ≡ TotalsRule.expected (settingOf narrowWidth (length cells)) (cellsOf narrowWidth cells) (operationsOf narrowWidth operations) k
 
 -- not only finds and adds: an update
 an-update : (resultOf (job start (operation 3 1 5 ∷ []) (0 ∷ 0 ∷ [])) .outcome .done ≡ 1)
-    × TotalsRule.CellsSuffice (settingOf start) (cellsOf start) (operationsOf (operation 3 1 5 ∷ []))
+    × TotalsRule.CellsSuffice (settingOf narrowWidth (length start)) (cellsOf narrowWidth start) (operationsOf narrowWidth (operation 3 1 5 ∷ []))
     × (Sums start (operation 3 1 5 ∷ []) (resultOf (job start (operation 3 1 5 ∷ []) (0 ∷ 0 ∷ []))) → ⊥)
 unfolding replayed amount
 an-update = (refl, lit≤ tt, λ h. differ (ap amount (h 1)) tt)
 
 -- not every operation finished: an add that has read and not swapped
-an-unfinished-add : T (TotalsRule.onlyFindsAndAdds (operationsOf (operation 4 1 5 ∷ [])))
-    × TotalsRule.CellsSuffice (settingOf start) (cellsOf start) (operationsOf (operation 4 1 5 ∷ []))
+an-unfinished-add : T (TotalsRule.onlyFindsAndAdds (operationsOf narrowWidth (operation 4 1 5 ∷ [])))
+    × TotalsRule.CellsSuffice (settingOf narrowWidth (length start)) (cellsOf narrowWidth start) (operationsOf narrowWidth (operation 4 1 5 ∷ []))
     × (Sums start (operation 4 1 5 ∷ []) (resultOf (job start (operation 4 1 5 ∷ []) (0 ∷ []))) → ⊥)
 unfolding replayed amount
 an-unfinished-add = (tt, lit≤ tt, λ h. differ (ap amount (h 1)) tt)
 
 -- cells that do not suffice: an add to a full table
-a-full-table : T (TotalsRule.onlyFindsAndAdds (operationsOf (operation 4 9 1 ∷ [])))
+a-full-table : T (TotalsRule.onlyFindsAndAdds (operationsOf narrowWidth (operation 4 9 1 ∷ [])))
     × (resultOf (job fullTable (operation 4 9 1 ∷ []) (replicate 8 0)) .outcome .done ≡ 1)
     × (Sums fullTable (operation 4 9 1 ∷ []) (resultOf (job fullTable (operation 4 9 1 ∷ []) (replicate 8 0))) → ⊥)
 unfolding replayed amount
@@ -212,23 +215,23 @@ abbrev turned-away : ℕ → ℕ → List ℕ → Result
 turned-away number place answers =
     record { outcome = refusedOutcome number place; cells = twice; answers = answers; log = slices }
 
-refused-right : runResult twice adds racing slices slices ≡ turned-away 7 5 slices
+refused-right : runResult narrowWidth twice adds racing slices slices ≡ turned-away 7 5 slices
 unfolding computed
 refused-right = refl
 
-a-count-made-up : Demands start adds racing slices slices
+a-count-made-up : Demands narrowWidth start adds racing slices slices
     (record { outcome = madeOutcome 2 0 0; cells = added; answers = both; log = 0 ∷ 1 ∷ [] }) → ⊥
 unfolding replayed
 a-count-made-up h = differ (ap (λ r. r .outcome .lost) (h .result)) tt
 
-another-place : Demands twice adds racing slices slices (turned-away 7 4 slices) → ⊥
+another-place : Demands narrowWidth twice adds racing slices slices (turned-away 7 4 slices) → ⊥
 unfolding replayed
 another-place h = differ (ap (λ r. r .outcome .place) (h .refused (λ e. differ e tt))) tt
 
-another-number : Demands twice adds racing slices slices (turned-away 8 5 slices) → ⊥
+another-number : Demands narrowWidth twice adds racing slices slices (turned-away 8 5 slices) → ⊥
 unfolding replayed
 another-number h = differ (ap (λ r. r .outcome .number) (h .refused (λ e. differ e tt))) tt
 
-a-slice-altered : Demands twice adds racing slices slices (turned-away 7 5 (0 ∷ 0 ∷ [])) → ⊥
+a-slice-altered : Demands narrowWidth twice adds racing slices slices (turned-away 7 5 (0 ∷ 0 ∷ [])) → ⊥
 unfolding replayed
 a-slice-altered h = differ (ap (λ r. getD (r .answers) 0 0) (h .refused (λ e. differ e tt))) tt

@@ -1,4 +1,4 @@
--- Demands 1 to 3 on words: of every call, with no assumption left.
+-- Demands 1 to 3 on words: of every call, with no assumption left, at any width that packs.
 -- Assumes nothing.
 use mathlib.Core.Path.{_≡_, refl, ap, sym, subst, _∙_}
 use Prim.Native.Nat.{ℕ, zero, suc, _+_, _≤_, _<_, suc-le-suc}
@@ -14,13 +14,13 @@ use lib.ListN.{length, getD, getElem?, take, drop, length-take, length-map}
 use lib.Seq.{take-at, take-suc, take-take, getD-take, split-at}
 use Rattle.semantics.specs.Basics.{isSome, occurs}
 use Rattle.semantics.specs.declared.Refusal.{Refusal}
-use Rattle.semantics.specs.Totals.{Total}
+use Rattle.semantics.specs.declared.Total.{Total}
 use Rattle.semantics.specs.Cells.{Setting, Cell, empty, Operation, Answer, keyed, lookup, usedCells}
 use Rattle.semantics.specs.Step.{doneCount, Row, Machine, answerIn, finishedIn}
 use Rattle.semantics.specs.Step.{entry, begin, run}
 use Rattle.semantics.specs.Map.{replay}
 use Rattle.semantics.specs.TotalsRule.{onlyFindsAndAdds, CellsSuffice, expected}
-use Rattle.semantics.specs.Words.{decode, encode, decodeOperation, answerWord, narrowSetting}
+use Rattle.semantics.specs.Words.{Width, decode, encode, decodeOperation, answerWord, settingOf}
 use Rattle.semantics.specs.Refusals.{Call, callOf}
 use Rattle.semantics.specs.Run.{Result, over, machine, answerOf, outcomeOf, acceptedResult, refusalOf, refusedResult, resultIf, runResult}
 use Rattle.semantics.specs.Demands.{logOf, replayOf, Linearizable, TotalsKept, Untouched, afterEntries, AcceptedCall, Demands}
@@ -29,27 +29,27 @@ use Rattle.semantics.proofs.Counts.{none-false}
 use Rattle.semantics.proofs.Over.{over-get}
 use Rattle.semantics.proofs.Linearizability.{Linearized, linearizable, unfinished-untouched}
 use Rattle.semantics.proofs.TotalsHold.{totals-rule}
-use Rattle.semantics.proofs.Narrow.{allowed-lawful, allowed-bounds}
-use Rattle.semantics.proofs.Words.{decode-encode-all}
+use Rattle.semantics.proofs.Sizes.{allowed-lawful, allowed-bounds}
+use Rattle.semantics.proofs.Words.{Packing, decode-encode-all}
 use Rattle.semantics.proofs.RunPacks.{AllPack, run-packs}
 use Rattle.semantics.proofs.Start.{Passed, accepted-call, start-accepted, start-packs, operations-packed, beginning-accepted}
 
 -- a written answer is its row's, as far as there are rows
-answers-of : (rows : List (Row Total)) (i : ℕ) → getD (map answerOf rows) i 0 ≡ answerWord (answerIn (getElem? rows i))
+answers-of : (W : Width) (rows : List (Row Total)) (i : ℕ) → getD (map (answerOf W) rows) i 0 ≡ answerWord W (answerIn (getElem? rows i))
 unfolding answerOf answerIn answerWord
-answers-of [] i = refl
-answers-of (r ∷ rows) zero = refl
-answers-of (r ∷ rows) (suc i) = answers-of rows i
+answers-of W [] i = refl
+answers-of W (r ∷ rows) zero = refl
+answers-of W (r ∷ rows) (suc i) = answers-of W rows i
 
-answer-at : (rows : List (Row Total)) (answers : List ℕ) (i : ℕ) → i < length rows
-    → getD (over (map answerOf rows) answers) i 0 ≡ answerWord (answerIn (getElem? rows i))
-answer-at rows answers i h = over-get (map answerOf rows) answers i 0 (omega (arith, length-map rows answerOf)) ∙ answers-of rows i
+answer-at : (W : Width) (rows : List (Row Total)) (answers : List ℕ) (i : ℕ) → i < length rows
+    → getD (over (map (answerOf W) rows) answers) i 0 ≡ answerWord W (answerIn (getElem? rows i))
+answer-at W rows answers i h = over-get (map (answerOf W) rows) answers i 0 (omega (arith, length-map rows (answerOf W))) ∙ answers-of W rows i
 
-unanswered : (rows : List (Row Total)) (i : ℕ) → finishedIn rows i ≡ false → answerWord (answerIn (getElem? rows i)) ≡ 0
+unanswered : (W : Width) (rows : List (Row Total)) (i : ℕ) → finishedIn rows i ≡ false → answerWord W (answerIn (getElem? rows i)) ≡ 0
 unfolding finishedIn answerWord isSome
-unanswered rows i e = go (answerIn (getElem? rows i)) e
+unanswered W rows i e = go (answerIn (getElem? rows i)) e
   where
-    go : (a : Option (Answer Total)) → isSome a ≡ false → answerWord a ≡ 0
+    go : (a : Option (Answer Total)) → isSome a ≡ false → answerWord W a ≡ 0
     go none e = refl
     go (some a) e = absurd (true≢false e)
 
@@ -69,25 +69,25 @@ at-most-one true e = omega arith
 at-most-one false e = omega arith
 
 -- of a call that the checks let pass, after any schedule
-module _ (call : Call) (ok : Passed call) where
+module _ {W : Width} (P : Packing W) (call : Call) (ok : Passed W call) where
   abbrev c : ℕ
   c = length (call .cells)
 
   abbrev S : Setting
-  S = narrowSetting c
+  S = settingOf W c
 
   abbrev start : List (Cell Total)
-  start = map decode (call .cells)
+  start = map (decode W) (call .cells)
 
   abbrev ops : List (Operation Total)
-  ops = map decodeOperation (call .operations)
+  ops = map (decodeOperation W) (call .operations)
 
   abbrev after : List ℕ → Machine Total
-  after schedule = machine (call .cells) (call .operations) schedule
+  after schedule = machine W (call .cells) (call .operations) schedule
 
   pub lin : (schedule : List ℕ) → Linearized S start ops (after schedule)
   unfolding machine
-  lin schedule = linearizable S (allowed-lawful c (ok .size)) start ops (start-accepted call ok) schedule
+  lin schedule = linearizable S (allowed-lawful (W .ceiling) c (ok .size)) start ops (start-accepted P call ok) schedule
 
   -- one entry more, after any others
   pub one-entry : (entries : List ℕ) (i : ℕ) → after (entries ++ (i ∷ [])) ≡ entry S (after entries) i
@@ -100,7 +100,7 @@ module _ (call : Call) (ok : Passed call) where
   unfolding machine run
   split-untouched entries i later e =
       ap (λ (m : Machine Total). m .cells) (one-entry entries i)
-      ∙ unfinished-untouched S (allowed-lawful c (ok .size)) start ops (start-accepted call ok) entries i later
+      ∙ unfinished-untouched S (allowed-lawful (W .ceiling) c (ok .size)) start ops (start-accepted P call ok) entries i later
       (ap (λ (m : Machine Total). occurs i (m .log)) (sym (foldl-append (entry S) (begin S start ops) entries (i ∷ later))) ∙ e)
 
   -- the same by numbers: entry k, after n entries
@@ -120,46 +120,46 @@ module _ (call : Call) (ok : Passed call) where
     m = after schedule
 
     -- the words that a run leaves stand for its cells
-    pub packs : AllPack c m
+    pub packs : AllPack W c m
     unfolding machine
-    packs = run-packs c start ops (omega (arith, allowed-bounds c (ok .size))) (length-map (call .cells) decode) (start-packs call ok) (operations-packed call ok) schedule
+    packs = run-packs P c start ops (omega (arith, allowed-bounds c (ok .size))) (length-map (call .cells) (decode W)) (start-packs P call ok) (operations-packed P call ok) schedule
 
-    back : map decode (map encode (m .cells)) ≡ m .cells
+    back : map (decode W) (map (encode W) (m .cells)) ≡ m .cells
     unfolding machine
-    back = decode-encode-all (m .cells) (λ i b. packs .cells i)
+    back = decode-encode-all P (m .cells) (λ i b. packs .cells i)
 
     pub same-length : length (m .rows) ≡ length (call .operations)
     same-length =
-        sym (length-map (m .rows) (λ r. r .operation)) ∙ ap length (lin schedule .operations) ∙ length-map (call .operations) decodeOperation
+        sym (length-map (m .rows) (λ r. r .operation)) ∙ ap length (lin schedule .operations) ∙ length-map (call .operations) (decodeOperation W)
 
     logged-below : (i : ℕ) → 0 < occurs i (m .log) → i < length (m .rows)
     logged-below i h = finished-below (m .rows) i (one-true (finishedIn (m .rows) i) (omega (arith, lin schedule .once i)))
 
     module _ (answers log : List ℕ) where
       abbrev result : Result
-      result = acceptedResult m answers log
+      result = acceptedResult W m answers log
 
       -- the log that was written is the first of its slice, one for each finished operation
       written-log : logOf result ≡ m .log
       unfolding over acceptedResult outcomeOf
       written-log = take-at (m .log) (drop (length (m .log)) log) (doneCount (m .rows)) (sym (lin schedule .counted))
 
-      written-answers : map (λ i. getD (over (map answerOf (m .rows)) answers) i 0) (m .log)
-          ≡ map (λ a. answerWord (some a)) (replay S start ops (m .log) .answers)
+      written-answers : map (λ i. getD (over (map (answerOf W) (m .rows)) answers) i 0) (m .log)
+          ≡ map (λ a. answerWord W (some a)) (replay S start ops (m .log) .answers)
       written-answers =
-          map-on (λ i. getD (over (map answerOf (m .rows)) answers) i 0) (λ i. answerWord (answerIn (getElem? (m .rows) i))) (m .log)
-          (λ i h. answer-at (m .rows) answers i (logged-below i h))
-          ∙ sym (map-map answerWord (λ i. answerIn (getElem? (m .rows) i)) (m .log))
-          ∙ ap (map answerWord) (lin schedule .answers)
-          ∙ map-map answerWord some (replay S start ops (m .log) .answers)
+          map-on (λ i. getD (over (map (answerOf W) (m .rows)) answers) i 0) (λ i. answerWord W (answerIn (getElem? (m .rows) i))) (m .log)
+          (λ i h. answer-at W (m .rows) answers i (logged-below i h))
+          ∙ sym (map-map (answerWord W) (λ i. answerIn (getElem? (m .rows) i)) (m .log))
+          ∙ ap (map (answerWord W)) (lin schedule .answers)
+          ∙ map-map (answerWord W) some (replay S start ops (m .log) .answers)
 
       unwritten : (i : ℕ) → i < length (call .operations) → occurs i (m .log) ≡ 0
-          → getD (over (map answerOf (m .rows)) answers) i 0 ≡ 0
+          → getD (over (map (answerOf W) (m .rows)) answers) i 0 ≡ 0
       unwritten i h e =
-          answer-at (m .rows) answers i (omega (arith, same-length))
-          ∙ unanswered (m .rows) i (none-false (finishedIn (m .rows) i) (sym (lin schedule .once i) ∙ e))
+          answer-at W (m .rows) answers i (omega (arith, same-length))
+          ∙ unanswered W (m .rows) i (none-false (finishedIn (m .rows) i) (sym (lin schedule .once i) ∙ e))
 
-      words-linearizable : Linearizable (call .cells) (call .operations) result
+      words-linearizable : Linearizable W (call .cells) (call .operations) result
       unfolding acceptedResult outcomeOf replayOf
       words-linearizable =
           record {
@@ -172,28 +172,28 @@ module _ (call : Call) (ok : Passed call) where
             distinct = rw back (lin schedule .distinct);
           }
 
-      words-totals : TotalsKept (call .cells) (call .operations) result
+      words-totals : TotalsKept W (call .cells) (call .operations) result
       unfolding TotalsKept acceptedResult outcomeOf machine
       words-totals only done suffice k =
           ap (lookup k) back
-          ∙ totals-rule S (allowed-lawful c (ok .size)) start (start-accepted call ok) ops schedule only (done ∙ sym (length-map (call .operations) decodeOperation))
+          ∙ totals-rule S (allowed-lawful (W .ceiling) c (ok .size)) start (start-accepted P call ok) ops schedule only (done ∙ sym (length-map (call .operations) (decodeOperation W)))
           suffice k
 
 -- what a call leaves: it is turned away, or it leaves what its entries come to
-module _ (cells operations schedule answers log : List ℕ) where
+module _ (W : Width) (cells operations schedule answers log : List ℕ) where
   abbrev left : Result
-  left = runResult cells operations schedule answers log
+  left = runResult W cells operations schedule answers log
 
   abbrev refusal : Refusal
-  refusal = refusalOf cells operations schedule answers log
+  refusal = refusalOf W cells operations schedule answers log
 
-  pub accepted : refusal .number ≡ 0 → left ≡ acceptedResult (machine cells operations schedule) answers log
+  pub accepted : refusal .number ≡ 0 → left ≡ acceptedResult W (machine W cells operations schedule) answers log
   unfolding runResult resultIf
-  accepted e = ap (resultIf cells operations schedule answers log) (eq-eqb (refusal .number) 0 e)
+  accepted e = ap (resultIf W cells operations schedule answers log) (eq-eqb (refusal .number) 0 e)
 
   pub refused : (refusal .number ≡ 0 → ⊥) → left ≡ refusedResult refusal cells answers log
   unfolding runResult resultIf
-  refused h = ap (resultIf cells operations schedule answers log) (ne-eqb (refusal .number) 0 h)
+  refused h = ap (resultIf W cells operations schedule answers log) (ne-eqb (refusal .number) 0 h)
 
   pub number-is : left .outcome .number ≡ refusal .number
   unfolding acceptedResult outcomeOf refusedResult
@@ -203,51 +203,51 @@ module _ (cells operations schedule answers log : List ℕ) where
   ]
 
 -- the theorem
-module _ (cells operations schedule answers log : List ℕ) where
+module _ {W : Width} (P : Packing W) (cells operations schedule answers log : List ℕ) where
   abbrev result-after : ℕ → Result
-  result-after = afterEntries cells operations schedule answers log
+  result-after = afterEntries W cells operations schedule answers log
 
-  module _ (e : refusalOf cells operations schedule answers log .number ≡ 0) where
+  module _ (e : refusalOf W cells operations schedule answers log .number ≡ 0) where
     abbrev called : ℕ → Call
     called k = callOf cells operations (take k schedule) (length answers) (length log)
 
-    ok-after : (k : ℕ) → refusalOf cells operations (take k schedule) answers log .number ≡ 0
-    ok-after k = beginning-accepted cells operations schedule (length answers) (length log) k e
+    ok-after : (k : ℕ) → refusalOf W cells operations (take k schedule) answers log .number ≡ 0
+    ok-after k = beginning-accepted W cells operations schedule (length answers) (length log) k e
 
-    rules : (k : ℕ) → result-after k ≡ acceptedResult (machine cells operations (take k schedule)) answers log
-    rules k = accepted cells operations (take k schedule) answers log (ok-after k)
+    rules : (k : ℕ) → result-after k ≡ acceptedResult W (machine W cells operations (take k schedule)) answers log
+    rules k = accepted W cells operations (take k schedule) answers log (ok-after k)
 
-    passed : (k : ℕ) → Passed (called k)
-    passed k = accepted-call (called k) (ok-after k)
+    passed : (k : ℕ) → Passed W (called k)
+    passed k = accepted-call W (called k) (ok-after k)
 
-    log-after : (k : ℕ) → logOf (result-after k) ≡ machine cells operations (take k schedule) .log
-    log-after k = ap (λ (r : Result). logOf r) (rules k) ∙ written-log (called k) (passed k) (take k schedule) answers log
+    log-after : (k : ℕ) → logOf (result-after k) ≡ machine W cells operations (take k schedule) .log
+    log-after k = ap (λ (r : Result). logOf r) (rules k) ∙ written-log P (called k) (passed k) (take k schedule) answers log
 
-    accepted-call-is : AcceptedCall cells operations schedule answers log (runResult cells operations schedule answers log)
+    accepted-call-is : AcceptedCall W cells operations schedule answers log (runResult W cells operations schedule answers log)
     unfolding acceptedResult Untouched
     accepted-call-is =
         let call = callOf cells operations schedule (length answers) (length log) in
-        let ok = accepted-call call e in
+        let ok = accepted-call W call e in
         record {
           rules = rules;
           linearizable = λ k.
-              subst (Linearizable cells operations) (sym (rules k)) (words-linearizable (called k) (passed k) (take k schedule) answers log);
+              subst (Linearizable W cells operations) (sym (rules k)) (words-linearizable P (called k) (passed k) (take k schedule) answers log);
           untouched = λ n k h b q.
               ap (λ (r : Result). r .cells) (rules (k + 1))
-              ∙ ap (map encode) (untouched-after call ok schedule n k h b (ap (occurs (getD schedule k 0)) (sym (log-after n)) ∙ q))
+              ∙ ap (map (encode W)) (untouched-after P call ok schedule n k h b (ap (occurs (getD schedule k 0)) (sym (log-after n)) ∙ q))
               ∙ ap (λ (r : Result). r .cells) (sym (rules k));
-          totals = subst (TotalsKept cells operations) (sym (accepted cells operations schedule answers log e)) (words-totals call ok schedule answers log);
+          totals = subst (TotalsKept W cells operations) (sym (accepted W cells operations schedule answers log e)) (words-totals P call ok schedule answers log);
         }
 
-  pub demands : Demands cells operations schedule answers log (runResult cells operations schedule answers log)
+  pub demands : Demands W cells operations schedule answers log (runResult W cells operations schedule answers log)
   demands =
-      let number = number-is cells operations schedule answers log in
+      let number = number-is W cells operations schedule answers log in
       record {
         result = refl;
-        refused = λ h. refused cells operations schedule answers log (λ e. h (number ∙ e));
+        refused = λ h. refused W cells operations schedule answers log (λ e. h (number ∙ e));
         accepted = λ e. accepted-call-is (sym number ∙ e);
       }
 
   -- of any result that equals it
-  pub demands-of : (r : Result) → runResult cells operations schedule answers log ≡ r → Demands cells operations schedule answers log r
-  demands-of r e = subst (Demands cells operations schedule answers log) e demands
+  pub demands-of : (r : Result) → runResult W cells operations schedule answers log ≡ r → Demands W cells operations schedule answers log r
+  demands-of r e = subst (Demands W cells operations schedule answers log) e demands

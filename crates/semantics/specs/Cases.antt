@@ -10,16 +10,18 @@ use mathlib.Core.Bool.{Bool, true, false, _&&_, Bool·beq}
 use mathlib.Core.List.{List, [], _∷_, _++_}
 use lib.Dec.{T, eqb}
 use lib.ListN.{length, set, replicate}
-use Rattle.semantics.specs.Totals.{plusAt, narrow, narrowCeiling}
+use Rattle.semantics.specs.Totals.{plusAt}
+use Rattle.semantics.specs.Words.{settingOf}
+use Rattle.semantics.specs.Narrow.{narrow, narrowCeiling, narrowWidth}
 use Rattle.semantics.specs.TotalsRule.{onlyFindsAndAdds, CellsSuffice}
-use Rattle.semantics.specs.Words.{cellWord as cell, operationWord as operation, packedAnswer as answer, roomHome, roomSum}
+use Rattle.semantics.specs.Narrow.{cellWord as cell, operationWord as operation, packedAnswer as answer, roomHome, roomSum}
 use Rattle.semantics.specs.Run.{Result, runResult}
-use Rattle.semantics.specs.Demands.{settingOf, cellsOf, operationsOf}
+use Rattle.semantics.specs.Demands.{cellsOf, operationsOf}
 use Rattle.semantics.specs.Text.{text}
 use Rattle.semantics.specs.declared.Refusal.{Refusal}
 use Rattle.semantics.specs.declared.Position.{Position}
 use Rattle.semantics.specs.Records.{faultAt}
-use Rattle.semantics.specs.RunFile.{Contents, Reading, reading, readerRefusal, runFile, nextOf}
+use Rattle.semantics.specs.RunFile.{Contents, Reading, narrowFile, reading, readerRefusal, runFile, nextOf}
 use Rattle.semantics.specs.Response.{response}
 
 -- c cells, empty but for those named by number, key and total
@@ -78,11 +80,11 @@ nothing = job [] [] []
 unfoldable pub resultOf : Contents → Result
 resultOf j =
     let slice : List ℕ = replicate (length (j .operations)) 9 in
-    runResult (j .cells) (j .operations) (j .schedule) slice slice
+    runResult narrowWidth (j .cells) (j .operations) (j .schedule) slice slice
 
 -- the same with slices for so many answers and so many log bytes
 unfoldable pub resultWith : ℕ → ℕ → Contents → Result
-resultWith answers log j = runResult (j .cells) (j .operations) (j .schedule) (replicate answers 9) (replicate log 9)
+resultWith answers log j = runResult narrowWidth (j .cells) (j .operations) (j .schedule) (replicate answers 9) (replicate log 9)
 
 pub data Case : Type 0 where
   -- the home of a key in c cells
@@ -140,7 +142,7 @@ lentAs cells operations entries h =
     job (lent cells (h .cells)) (lent operations (h .operations)) (lent entries (h .schedule))
 
 unfoldable pub readingOf : List ℕ → Contents → Reading
-readingOf file slices = reading file (slices .cells) (slices .operations) (slices .schedule)
+readingOf file slices = reading narrowFile file (slices .cells) (slices .operations) (slices .schedule)
 
 unfoldable pub holds : Case → Bool
 holds (homeIs k c h) = eqb (roomHome k c) h
@@ -158,11 +160,11 @@ holds (begins cells operations) =
 holds (reads file h) = readBy 0 0 h (lentAs 4096 64 16384 h) (readingOf file (lentAs 4096 64 16384 nothing))
 holds (unread file cells operations entries number place) =
     readBy number place nothing (lentAs cells operations entries nothing) (readingOf file (lentAs cells operations entries nothing))
-holds (judgedIn cells operations entries file number place) = refusedBy number place (readerRefusal file cells operations entries)
+holds (judgedIn cells operations entries file number place) = refusedBy number place (readerRefusal narrowFile file cells operations entries)
 holds (counted before n number after) =
     let file = scheduleRecord (replicate n 0) in
     let p : Position = record { at = 0; part = 4; size = 8; lowest = 0; operations = 1; entries = before } in
-    eqb number (faultAt runFile file p) && eqb after (nextOf file p .entries)
+    eqb number (faultAt (runFile narrowFile) file p) && eqb after (nextOf narrowFile file p .entries)
 
 -- "A run in full": OP records of kind 4 and the rows of the one SC record
 unfoldable pub inFull : Contents
@@ -512,6 +514,6 @@ cases = starred ++ furtherNumbers ++ furtherCalls ++ furtherFiles ++ furtherText
 -- all that demand 3 asks of a run
 pub record Meets (j : Contents) : Type 0 where
   pub accepted : resultOf j .outcome .number ≡ 0
-  pub only : T (onlyFindsAndAdds (operationsOf (j .operations)))
+  pub only : T (onlyFindsAndAdds (operationsOf narrowWidth (j .operations)))
   pub finished : resultOf j .outcome .done ≡ length (j .operations)
-  pub suffice : CellsSuffice (settingOf (j .cells)) (cellsOf (j .cells)) (operationsOf (j .operations))
+  pub suffice : CellsSuffice (settingOf narrowWidth (length (j .cells))) (cellsOf narrowWidth (j .cells)) (operationsOf narrowWidth (j .operations))

@@ -187,6 +187,20 @@ logged (finishes a) i l = l ++ (i ∷ [])
 unfoldable pub idled : {T : Type 0} → Machine T → Machine T
 idled m = record { cells = m .cells; rows = m .rows; log = m .log; lost = m .lost; idle = suc (m .idle) }
 
+-- What an entry of the schedule does: it is idle, or the row that it names takes a step.
+pub data Act (T : Type 0) : Type 0 where
+  idles : Act T
+  steps : Operation T → Pending T → Act T
+
+unfoldable pub actIn : {T : Type 0} → Operation T → State T → Act T
+actIn o (pending s) = steps o s
+actIn o (finished a) = idles
+
+-- of the row that it names (a number that names none is idle too; refusal 6 turns it away)
+unfoldable pub actOf : {T : Type 0} → Option (Row T) → Act T
+actOf none = idles
+actOf (some r) = actIn (r .operation) (r .state)
+
 module _ (S : Setting) where
   -- "One step changes the lent record of one row and at most one cell."
   unfoldable pub taken : Machine (S .Total) → ℕ → Operation (S .Total) → Pending (S .Total) → Machine (S .Total)
@@ -201,17 +215,13 @@ module _ (S : Setting) where
         idle = m .idle;
       }
 
-  -- one entry of the schedule, which names a row (a number that names none is idle too; refusal 6 turns it away)
-  unfoldable pub act : Machine (S .Total) → ℕ → Operation (S .Total) → State (S .Total) → Machine (S .Total)
-  act m i o (pending s) = taken m i o s
-  act m i o (finished a) = idled m
-
-  unfoldable pub entered : Machine (S .Total) → ℕ → Option (Row (S .Total)) → Machine (S .Total)
-  entered m i none = idled m
-  entered m i (some r) = act m i (r .operation) (r .state)
+  -- an entry is its act, applied to the machine
+  unfoldable pub applied : Machine (S .Total) → ℕ → Act (S .Total) → Machine (S .Total)
+  applied m i idles = idled m
+  applied m i (steps o s) = taken m i o s
 
   unfoldable pub entry : Machine (S .Total) → ℕ → Machine (S .Total)
-  entry m i = entered m i (getElem? (m .rows) i)
+  entry m i = applied m i (actOf (getElem? (m .rows) i))
 
   -- "Before the first entry the cells are the starting cells, as lent to the run, and no row has taken a step."
   unfoldable pub freshRow : Operation (S .Total) → Row (S .Total)

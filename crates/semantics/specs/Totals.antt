@@ -1,15 +1,12 @@
--- Document 01, "Cells, rows, schedule": totals, under any ceiling.
+-- Document 01, "Cells, rows, schedule": totals, under any ceiling. "Totals 0 to 65,534 are true. Total 65,535 is pinned: at least that much." A
+-- total is an amount and whether it is saturated (document 01: pinned); the code declares it, in src/lib.rt.
 -- Assumes nothing.
 use Prim.Native.Nat.{ℕ, _+_, min}
 use mathlib.Core.Bool.{Bool, _||_, _&&_, Bool·beq}
 use mathlib.Core.List.{List, [], _∷_}
 use lib.Dec.{leb, eqb}
+use Rattle.semantics.specs.declared.Total.{Total}
 use Rattle.semantics.specs.Basics.{anyOf}
-
--- "Totals 0 to 65,534 are true. Total 65,535 is pinned: at least that much." A total is an amount and whether it is saturated (document 01: pinned).
-pub record Total : Type 0 where
-  pub amount : ℕ
-  pub saturated : Bool
 
 -- an amount held at a ceiling: saturated if it reaches the ceiling, or if it was so before
 unfoldable pub heldAt : ℕ → ℕ → Bool → Total
@@ -38,10 +35,3 @@ sumAt ceiling t (a ∷ more) =
 -- whether two totals are equal
 unfoldable pub sameTotal : Total → Total → Bool
 sameTotal a b = eqb (a .amount) (b .amount) && Bool·beq (a .saturated) (b .saturated)
-
--- "Total 65,535 is pinned": the narrow total has ceiling 65,535, and is saturated exactly where it equals that
-abbrev pub narrowCeiling : ℕ
-narrowCeiling = 65535
-
-unfoldable pub narrow : ℕ → Total
-narrow n = record { amount = n; saturated = eqb n narrowCeiling }

@@ -1,11 +1,13 @@
--- Document 01, "Cells, rows, schedule": packed words, table sizes and the home of a key. Words meet the rules of the other files through
--- `decode` and `encode`; proofs/Words.antt shows that the two are inverse on the words that the checks accept.
+-- Document 01, "Cells, rows, schedule": packed words of any width, table sizes and the home of a key. A width is a record of layouts; words meet
+-- the rules of the other files through `decode` and `encode`, which proofs/Words.antt shows to be inverse on the words that the checks
+-- accept. Narrow.antt has the width of document 01, Wide.antt that of document 02.
 -- Assumes nothing.
-use Prim.Native.Nat.{ℕ, zero, suc, _+_, _*_, _/_, _%_, _^_}
+use Prim.Native.Nat.{ℕ, zero, suc, _*_, _/_, _%_, _^_}
 use mathlib.Core.Bool.{Bool, false, cond, _&&_, _||_}
 use mathlib.Core.Option.{Option, none, some}
 use lib.Dec.{eqb, ltb}
-use Rattle.semantics.specs.Totals.{Total, narrow, narrowCeiling, plusAt, sumAt, sameTotal}
+use Rattle.semantics.specs.declared.Total.{Total}
+use Rattle.semantics.specs.Totals.{plusAt, sumAt, sameTotal}
 use Rattle.semantics.specs.Cells.{Setting, Cell, empty, tombstone, live, Kind, find, insert, update, add, remove, Operation, Answer, codeOf, totalOf}
 
 -- whether c is one of n powers of two, 2^k the lowest
@@ -16,46 +18,6 @@ isPowerFrom k (suc n) c = eqb c (2 ^ k) || isPowerFrom (suc k) n c
 -- "Their number c is a power of two from 8 to 4,096."
 unfoldable pub sizeAllowed : ℕ → Bool
 sizeAllowed c = isPowerFrom 3 10 c
-
--- sixteen bits above sixteen: the layout of a cell and of an answer
-abbrev pub upperHalf : ℕ → ℕ
-upperHalf w = w / 65536
-
-abbrev pub lowerHalf : ℕ → ℕ
-lowerHalf w = w % 65536
-
-abbrev pub joined : ℕ → ℕ → ℕ
-joined upper lower = upper * 65536 + lower
-
--- "The key is the upper sixteen bits of the word, the total the lower sixteen."
-abbrev pub keyOf : ℕ → ℕ
-keyOf w = upperHalf w
-
-abbrev pub totalBits : ℕ → ℕ
-totalBits w = lowerHalf w
-
-abbrev pub cellWord : ℕ → ℕ → ℕ
-cellWord key total = joined key total
-
--- "Keys 1 to 65,534 are live."
-unfoldable pub isLiveKey : ℕ → Bool
-isLiveKey k = ltb 0 k && ltb k 65535
-
-unfoldable pub tombstoneWord : ℕ
-tombstoneWord = cellWord 65535 0
-
--- "Word 0 is an empty cell. Key 65,535 with total 0 is a tombstone": a word with another total under those keys is no cell (refusal 4)
-unfoldable pub cellAllowed : ℕ → Bool
-cellAllowed w = isLiveKey (keyOf w) || eqb w 0 || eqb w tombstoneWord
-
--- the cell that a word is (a word that is no cell is never empty; refusal 4 turns it away), and the word of a cell
-unfoldable pub decode : ℕ → Cell Total
-decode w = cond (isLiveKey (keyOf w)) (live (keyOf w) (narrow (totalBits w))) (cond (eqb w 0) empty tombstone)
-
-unfoldable pub encode : Cell Total → ℕ
-encode empty = 0
-encode tombstone = tombstoneWord
-encode (live k t) = cellWord k (t .amount)
 
 -- "Home of a key: (key × 40,503) mod 65,536, divided by (65,536 / c), rounded down."
 abbrev pub hashOf : ℕ → ℕ
@@ -69,21 +31,28 @@ homeIn c k = hashOf k / (65536 / c)
 unfoldable pub scaledHome : ℕ → ℕ → ℕ
 scaledHome c k = hashOf k * c / 65536
 
--- "A row is one operation in a 64-bit word: kind × 2^32 + key × 65,536 + amount. The kind takes eight bits."
-abbrev pub kindBits : ℕ → ℕ
-kindBits w = w / 2 ^ 32 % 256
+-- the setting of a table of c cells whose totals are held at a ceiling
+abbrev pub settingAt : ℕ → ℕ → Setting
+settingAt ceiling c =
+    record {
+      Total = Total;
+      plus = plusAt ceiling;
+      same = sameTotal;
+      sum = sumAt ceiling;
+      size = c;
+      home = homeIn c;
+    }
 
-abbrev pub bitsAboveKind : ℕ → ℕ
-bitsAboveKind w = w / 2 ^ 40
+-- "Keys 1 to 65,534 are live." Key 0 is an empty cell's, and key 65,535 a tombstone's.
+unfoldable pub isLiveKey : ℕ → Bool
+isLiveKey k = ltb 0 k && ltb k 65535
 
-abbrev pub operationKey : ℕ → ℕ
-operationKey w = w / 65536 % 65536
+abbrev pub tombstoneKey : ℕ
+tombstoneKey = 65535
 
-abbrev pub amountBits : ℕ → ℕ
-amountBits w = w % 65536
-
-abbrev pub operationWord : ℕ → ℕ → ℕ → ℕ
-operationWord kind key amount = kind * 2 ^ 32 + key * 65536 + amount
+-- total 0
+abbrev pub nothing : Total
+nothing = record { amount = 0; saturated = false }
 
 -- "The kind is 1 find, 2 insert, 3 update, 4 add, 5 remove." Any other number is refused (refusal 5), so it
 -- does not matter that it stands for the last.
@@ -97,59 +66,63 @@ kindNumber update = 3
 kindNumber add = 4
 kindNumber remove = 5
 
-unfoldable pub decodeOperation : ℕ → Operation Total
-decodeOperation w = record { kind = kindOf (kindBits w); key = operationKey w; amount = narrow (amountBits w) }
-
-unfoldable pub encodeOperation : Operation Total → ℕ
-encodeOperation o = operationWord (kindNumber (o .kind)) (o .key) (o .amount .amount)
-
--- "The key is live. The amount may be 0 to 65,535, and is 0 for find and remove."
-unfoldable pub takesAmount : ℕ → Bool
-takesAmount n = eqb n 2 || eqb n 3 || eqb n 4
-
 unfoldable pub isKind : ℕ → Bool
 isKind n = ltb 0 n && ltb n 6
 
-unfoldable pub operationAllowed : ℕ → Bool
-operationAllowed w =
-    eqb (bitsAboveKind w) 0 && isKind (kindBits w) && isLiveKey (operationKey w)
-    && (takesAmount (kindBits w) || eqb (amountBits w) 0)
+-- "The amount .. is 0 for find and remove."
+unfoldable pub takesAmount : ℕ → Bool
+takesAmount n = eqb n 2 || eqb n 3 || eqb n 4
 
--- "Answers are 32-bit: code × 65,536 + total."
-abbrev pub answerCode : ℕ → ℕ
-answerCode w = upperHalf w
+-- All that differs between widths: the ceiling and the totals under it; and of a cell, an operation and an answer where their fields lie in a
+-- word, how a word is packed of them, and which words are allowed.
+pub record Width : Type 0 where
+  pub ceiling : ℕ
+  pub isTotal : Total → Bool
+  pub keyOf : ℕ → ℕ
+  pub totalIn : ℕ → Total
+  pub cellWord : ℕ → Total → ℕ
+  pub cellAllowed : ℕ → Bool
+  pub kindBits : ℕ → ℕ
+  pub operationKey : ℕ → ℕ
+  pub amountIn : ℕ → Total
+  pub operationWord : ℕ → ℕ → Total → ℕ
+  pub operationAllowed : ℕ → Bool
+  pub answerCode : ℕ → ℕ
+  pub answerTotal : ℕ → Total
+  pub packedAnswer : ℕ → Total → ℕ
 
-abbrev pub answerTotal : ℕ → ℕ
-answerTotal w = lowerHalf w
-
-abbrev pub packedAnswer : ℕ → ℕ → ℕ
-packedAnswer code total = joined code total
+-- the cell of a key and a total: "Word 0 is an empty cell. Key 65,535 with total 0 is a tombstone" (another total under those keys is refused,
+-- refusal 4, so it does not matter that their cell is the same)
+unfoldable pub cellFrom : ℕ → Total → Cell Total
+cellFrom k t = cond (isLiveKey k) (live k t) (cond (eqb k 0) empty tombstone)
 
 -- "Codes 0, 2, 6 and 7 carry total 0."
-unfoldable pub carried : Option Total → ℕ
-carried none = 0
-carried (some t) = t .amount
+unfoldable pub carried : Option Total → Total
+carried none = nothing
+carried (some t) = t
 
-unfoldable pub answerWord : Option (Answer Total) → ℕ
-answerWord none = 0
-answerWord (some a) = packedAnswer (codeOf a) (carried (totalOf a))
+module _ (W : Width) where
+  -- the cell that a word is, and the word of a cell
+  unfoldable pub decode : ℕ → Cell Total
+  decode w = cellFrom (W .keyOf w) (W .totalIn w)
 
--- the setting of a narrow table of c cells
-abbrev pub narrowSetting : ℕ → Setting
-narrowSetting c =
-    record {
-      Total = Total;
-      plus = plusAt narrowCeiling;
-      same = sameTotal;
-      sum = sumAt narrowCeiling;
-      size = c;
-      home = homeIn c;
-    }
+  unfoldable pub encode : Cell Total → ℕ
+  encode empty = 0
+  encode tombstone = W .cellWord tombstoneKey nothing
+  encode (live k t) = W .cellWord k t
 
--- "The load module is C++ and calls two of these with plain numbers: the home of a key in c cells, giving 65,535 where c or the key is not
--- allowed, and the sum of two totals, which never fails."
-unfoldable pub roomHome : ℕ → ℕ → ℕ
-roomHome k c = cond (sizeAllowed c && isLiveKey k) (homeIn c k) 65535
+  -- the same of an operation
+  unfoldable pub decodeOperation : ℕ → Operation Total
+  decodeOperation w = record { kind = kindOf (W .kindBits w); key = W .operationKey w; amount = W .amountIn w }
 
-unfoldable pub roomSum : ℕ → ℕ → ℕ
-roomSum a b = plusAt narrowCeiling (narrow a) (narrow b) .amount
+  unfoldable pub encodeOperation : Operation Total → ℕ
+  encodeOperation o = W .operationWord (kindNumber (o .kind)) (o .key) (o .amount)
+
+  -- the word of an answer, 0 while there is none
+  unfoldable pub answerWord : Option (Answer Total) → ℕ
+  answerWord none = 0
+  answerWord (some a) = W .packedAnswer (codeOf a) (carried (totalOf a))
+
+  -- the setting of a table of c cells
+  abbrev pub settingOf : ℕ → Setting
+  settingOf c = settingAt (W .ceiling) c

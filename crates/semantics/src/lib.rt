@@ -14,6 +14,16 @@ pub const MOST_BYTES: usize = 65535;
 // No text of a run that those limits allow is longer, nor is that of a refusal.
 pub const MOST_TEXT: usize = 98304;
 
+// The same of the wide width, whose totals have longer texts.
+pub const MOST_WIDE_TEXT: usize = 151552;
+
+// A total: an amount, and whether it is saturated (document 01: pinned), so that it stands for at least
+// that much.
+pub struct Total {
+    pub amount: u32,
+    pub saturated: bool,
+}
+
 // Why a call is turned away: document 01's number of the refusal, and its place. An accepted call
 // has number 0 and place 0.
 pub struct Refusal {
@@ -52,6 +62,13 @@ pub struct Position {
     pub lowest: usize,
     pub operations: usize,
     pub entries: usize,
+}
+
+// What a scan of a run file makes of the record at a position: why it is turned away, 0 if it is not,
+// and the position past it; one that is turned away is not passed.
+pub struct Judged {
+    pub number: u32,
+    pub next: Position,
 }
 
 // What the reader of a run file returns beside the slices that it fills: whether the file was turned
