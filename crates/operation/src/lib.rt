@@ -3,11 +3,12 @@
 // word, fields are taken out and put together by shifts and masks, and the contracts say each as a
 // quotient or a remainder. Every function takes every input.
 ghost use mathlib.Core.Path.{_≡_};
-ghost use Prim.Native.Nat.{_%_, _^_};
-ghost use Rattle.semantics.specs.Words.{kindBits, bitsAboveKind, operationKey, amountBits, operationWord};
+ghost use Rattle.semantics.specs.Narrow.{kindBits, bitsAboveKind, operationKey, amountBits, operationWord};
 use word::cell_key;
 use word::cell_total;
 use word::cell_word;
+use word::low_8;
+use word::low_32;
 
 // The bits above the kind are 0 in an allowed operation.
 pub fn above_kind(w: u64) -> u32
@@ -19,26 +20,20 @@ pub fn above_kind(w: u64) -> u32
 pub fn operation_kind(w: u64) -> u8
     ensures { λ r. ⌜ r ≡ kindBits w ⌝ }
 {
-    ((w >> 32) & 0xff) as u8
+    low_8(w >> 32)
 }
 
-// What lies below the kind, as the word of a cell.
-fn below_kind(w: u64) -> u32
-    ensures { λ r. ⌜ r ≡ w % 2 ^ 32 ⌝ }
-{
-    (w & 0xffffffff) as u32
-}
-
+// What lies below the kind is the word of a cell.
 pub fn operation_key(w: u64) -> u16
     ensures { λ r. ⌜ r ≡ operationKey w ⌝ }
 {
-    cell_key(below_kind(w))
+    cell_key(low_32(w))
 }
 
 pub fn operation_amount(w: u64) -> u16
     ensures { λ r. ⌜ r ≡ amountBits w ⌝ }
 {
-    cell_total(below_kind(w))
+    cell_total(low_32(w))
 }
 
 pub fn operation_word(kind: u8, key: u16, amount: u16) -> u64

@@ -9,7 +9,7 @@ use lib.Pow.{pow-add, pow-pos, pow-lt}
 use lib.Count.{ones, trailingZeros, under, ones-step, ones-cat, ones-le}
 use borrow.Author.Tests.{eq-eqb, ne-eqb, lt-ltb, le-ltb}
 use Rattle.semantics.specs.Words.{isPowerFrom, sizeAllowed, hashOf, homeIn, scaledHome}
-use Rattle.semantics.proofs.Narrow.{power}
+use Rattle.semantics.proofs.Sizes.{power}
 
 -- a power has one bit set
 pub ones-pow : (t : ℕ) → ones (2 ^ t) ≡ 1

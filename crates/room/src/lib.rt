@@ -3,7 +3,8 @@
 // takes every input.
 ghost use mathlib.Core.Path.{_≡_};
 ghost use mathlib.Core.Bool.{true};
-ghost use Rattle.semantics.specs.Words.{isPowerFrom, sizeAllowed, homeIn, scaledHome, roomHome, roomSum};
+ghost use Rattle.semantics.specs.Words.{isPowerFrom, sizeAllowed, homeIn, scaledHome};
+ghost use Rattle.semantics.specs.Narrow.{roomHome, roomSum};
 use word::is_live;
 
 // Whether c is one of n powers of two, 2^low the lowest: one bit of c is set, and the zeros below

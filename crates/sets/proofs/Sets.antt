@@ -8,7 +8,7 @@ use native.Mathlib.Omega.{arith}
 use lib.Dec.{eqb, leb, eqb·suc-suc, lit≤}
 use lib.Bits.{bitAnd, bitOr, and-mask, or-step, or-zero-r}
 use lib.Count.{ones, ones-step}
-use lib.Pow.{pow-mono, shl-exact}
+use lib.Pow.{pow-mono, pow-pos, shl-exact}
 use borrow.Author.Tests.{eq-eqb, ne-eqb, eqb-true, eqb-false, lt-leb, le-leb}
 use Rattle.semantics.specs.Sets.{isIn, including}
 
@@ -106,3 +106,12 @@ and-place s i = ap (λ n. eqb n 1) (and-mask (s / 2 ^ i) 1)
 pub including-past : (s i : ℕ) → 64 ≤ i → including s i ≡ s
 unfolding including
 including-past s i b = rw (le-leb 64 i b, or-true)
+
+-- a set is as it was exactly where the place that is added was in it
+pub same-including : (s i : ℕ) → i < 64 → eqb (including s i) s ≡ isIn s i
+unfolding including
+same-including s i b = go (isIn s i) refl
+  where
+    go : (z : Bool) → isIn s i ≡ z → eqb (cond (isIn s i || leb 64 i) s (s + 2 ^ i)) s ≡ z
+    go true e = rw e (eq-eqb s s refl)
+    go false e = rw (e, lt-leb 64 i b) (ne-eqb (s + 2 ^ i) s (λ q. omega (arith, pow-pos i, q)))

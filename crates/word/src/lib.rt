@@ -2,26 +2,32 @@
 // together by shifts and masks; and whether a key is live. The contracts say each field as a quotient
 // or a remainder, so that callers need not reason about bits. Every function takes every input.
 ghost use mathlib.Core.Path.{_≡_};
-ghost use Rattle.semantics.specs.Words.{upperHalf, lowerHalf, joined, keyOf, totalBits, cellWord, answerCode, answerTotal, packedAnswer, isLiveKey};
+ghost use Prim.Native.Nat.{_%_};
+ghost use Rattle.semantics.specs.Words.{isLiveKey};
+ghost use Rattle.semantics.specs.Narrow.{upperHalf, lowerHalf, joined, keyOf, totalBits, cellWord, answerCode, answerTotal, packedAnswer};
 
 // The word of a tombstone: key 65,535 with total 0.
 pub const TOMBSTONE: u32 = 65535 << 16;
 
-// Document 01's codes of the answers that carry a total.
-pub const FOUND: u8 = 1;
+// The lowest eight, sixteen and thirty-two bits of a word, by a mask: what lies above is shifted off
+// first, by the layouts of either width.
+pub fn low_8(w: u64) -> u8
+    ensures { λ r. ⌜ r ≡ w % 256 ⌝ }
+{
+    (w & 0xff) as u8
+}
 
-pub const PRESENT: u8 = 3;
+pub fn low_16(w: u64) -> u16
+    ensures { λ r. ⌜ r ≡ w % 65536 ⌝ }
+{
+    (w & 0xffff) as u16
+}
 
-pub const CHANGED: u8 = 4;
-
-pub const REMOVED: u8 = 5;
-
-// The answers that carry none, whole: codes 2, 6 and 7. An unfinished operation's is 0.
-pub const INSERTED: u32 = 2 << 16;
-
-pub const ABSENT: u32 = 6 << 16;
-
-pub const FULL: u32 = 7 << 16;
+pub fn low_32(w: u64) -> u32
+    ensures { λ r. ⌜ r ≡ w % 4294967296 ⌝ }
+{
+    (w & 0xffffffff) as u32
+}
 
 // Sixteen bits above sixteen: the layout of a cell and of an answer.
 fn upper_half(w: u32) -> u16
@@ -33,7 +39,7 @@ fn upper_half(w: u32) -> u16
 fn lower_half(w: u32) -> u16
     ensures { λ r. ⌜ r ≡ lowerHalf w ⌝ }
 {
-    (w & 0xffff) as u16
+    low_16(w as u64)
 }
 
 fn joined(upper: u16, lower: u16) -> u32

@@ -8,7 +8,7 @@ use lib.Count.{ones, trailingZeros}
 use lib.Pow.{pow-lt}
 use Rattle.semantics.specs.Words.{isPowerFrom}
 use Rattle.semantics.proofs.Booleans.{true-T}
-use Rattle.semantics.proofs.Narrow.{power}
+use Rattle.semantics.proofs.Sizes.{power}
 use Rattle.room.proofs.Powers.{ones-pow, one-bit, at-power}
 use Rattle.room.proofs.is_power_from.Statement.{statement}
 use Rattle.room.proofs.is_power_from.Tie as tie

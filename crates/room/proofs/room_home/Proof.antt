@@ -4,7 +4,8 @@ use mathlib.Core.Path.{_≡_, sym, _∙_}
 use mathlib.Core.Bool.{true, and-false}
 use native.Mathlib.Omega.{arith}
 use borrow.Author.Needs.{needs}
-use Rattle.semantics.specs.Words.{isLiveKey, sizeAllowed, roomHome}
+use Rattle.semantics.specs.Words.{isLiveKey, sizeAllowed}
+use Rattle.semantics.specs.Narrow.{roomHome}
 use Rattle.semantics.proofs.Booleans.{true-T}
 use Rattle.semantics.proofs.Words.{live-bounds}
 use Rattle.room.proofs.room_home.Statement.{statement}

@@ -2,8 +2,9 @@
 -- Assumes nothing.
 use native.Mathlib.Omega.{arith}
 use borrow.Author.Needs.{needs}
-use Rattle.semantics.specs.Totals.{narrow, heldAt, plusAt}
-use Rattle.semantics.specs.Words.{roomSum}
+use Rattle.semantics.specs.Totals.{heldAt, plusAt}
+use Rattle.semantics.specs.Narrow.{narrow}
+use Rattle.semantics.specs.Narrow.{roomSum}
 use Rattle.room.proofs.room_sum.Statement.{statement}
 use Rattle.room.proofs.room_sum.Tie as tie
 

@@ -1,0 +1,11 @@
+-- An element of a list, or none past its last.
+-- Assumes nothing.
+use Prim.Native.Nat.{ℕ, zero, suc}
+use mathlib.Core.List.{List, [], _∷_}
+use Rattle.lent_words.specs.declared.Element.{Element}
+use Rattle.lent_words.specs.declared.Element.the-variants.{Word, Past}
+
+unfoldable pub elementAt : List ℕ → ℕ → Element
+elementAt [] i = Past
+elementAt (w ∷ more) zero = Word w
+elementAt (w ∷ more) (suc i) = elementAt more i
