@@ -3,31 +3,34 @@
 -- Assumes nothing.
 use Prim.Native.Nat.{ℕ}
 use mathlib.Core.Bool.{Bool, true, false}
-use mathlib.Core.Option.{some}
-use Rattle.semantics.specs.Totals.{Total, narrow}
+use Rattle.semantics.specs.declared.Total.{Total}
 use Rattle.semantics.specs.Cells.{Operation}
 use Rattle.semantics.specs.Step.{Fate, stays, ends, becomes, makes, effect, fateCell}
-use Rattle.semantics.specs.Words.{encode, decodeOperation, answerWord, narrowSetting, kindBits, isKind}
+use Rattle.semantics.specs.Words.{settingAt, isKind}
+use Rattle.rule.specs.declared.Operation.{Operation as OperationParts}
 use Rattle.rule.specs.declared.Rule.{Rule}
+use Rattle.rule.specs.Values.{operationOf, cellParts, answerParts}
+use Rattle.semantics.specs.Words.{nothing}
 
--- what a kind does where its key has total t: the read rule and the new word together
+-- what a kind does where its key has total t: the read rule and the new cell together
 unfoldable pub isStay : Fate Total → Bool
 isStay stays = true
 isStay ends = false
 isStay (becomes u) = false
 
-unfoldable pub ruleIf : Bool → ℕ → Operation Total → ℕ → Rule
-ruleIf true c o t =
-    let e = effect (narrowSetting c) (o .kind) (narrow t) (o .amount) in
+unfoldable pub ruleIf : Bool → ℕ → ℕ → Operation Total → Total → Rule
+ruleIf true ceiling c o t =
+    let e = effect (settingAt ceiling c) (o .kind) t (o .amount) in
     record {
       known = true;
       makes = makes (o .kind);
       stays = isStay (e .fate);
-      word = encode (fateCell (narrowSetting c) (o .key) (narrow t) (e .fate));
-      answer = answerWord (some (e .answer));
+      cell = cellParts (fateCell (settingAt ceiling c) (o .key) t (e .fate));
+      answer = answerParts (e .answer);
     }
-ruleIf false c o t = record { known = false; makes = false; stays = false; word = 0; answer = 0 }
+ruleIf false ceiling c o t =
+    record { known = false; makes = false; stays = false; cell = record { key = 0; total = nothing }; answer = record { code = 0; total = nothing } }
 
 -- "The kind is 1 find, 2 insert, 3 update, 4 add, 5 remove", other numbers refused
-unfoldable pub ruleOf : ℕ → ℕ → ℕ → Rule
-ruleOf c operation t = ruleIf (isKind (kindBits operation)) c (decodeOperation operation) t
+unfoldable pub ruleOf : ℕ → ℕ → OperationParts → Total → Rule
+ruleOf ceiling c operation t = ruleIf (isKind (operation .kind)) ceiling c (operationOf operation) t

@@ -1,40 +1,32 @@
--- The step on records and words is the step of document 01's rules: what a record stands for, and that one step of the code on the words of
--- an accepted run leaves the record, the word and the event of semantics/specs/Step.antt.
+-- The step on records and cells is the step of document 01's rules: what the record of an operation is, by where the operation stands, and that
+-- one step of the code leaves the record, the cell and the turn of semantics/specs/Step.antt, under any ceiling.
 -- Assumes nothing.
 use mathlib.Core.Path.{_≡_, refl, sym, ap, ap₂, _∙_}
-use Prim.Native.Nat.{ℕ, suc, _+_, _*_, _%_, _<_}
-use mathlib.Core.Bool.{Bool, true, false, cond}
-use mathlib.Core.List.{List, map}
-use mathlib.Core.Option.{some}
+use Prim.Native.Nat.{ℕ, suc, _+_, _%_, _<_}
+use mathlib.Core.Bool.{Bool, true, false, cond, true≢false}
+use mathlib.Core.Option.{Option, none, some}
 use native.Mathlib.Nat.{mod-lt, mod-self, mod-eq-of-lt, suc-mod}
 use native.Mathlib.Decide.{ℕ-discrete}
 use native.Mathlib.Omega.{arith}
 use lib.Dec.{eqb}
-use lib.ListN.{length, getD, length-map, List·getD-map}
 use borrow.Author.Tests.{eq-eqb, ne-eqb}
-use Rattle.semantics.specs.Totals.{Total, narrow}
-use Rattle.semantics.specs.Cells.{Setting, Cell, Operation, empty}
-use Rattle.semantics.specs.Step.{Turn, passes, holds, loses, finishes, Held, vacant, mine, Pending, reading, holding, State, pending, finished, after}
-use Rattle.semantics.specs.Step.{heldCell, sameCell, swapped, step, passed, placeOf}
+use Rattle.semantics.specs.declared.Total.{Total}
+use Rattle.semantics.specs.Cells.{Setting, Cell, empty, tombstone, live, Operation, Answer, absent}
+use Rattle.semantics.specs.Step.{Turn, passes, holds, loses, finishes, Held, vacant, mine, Pending, reading, holding, State, pending, finished, fresh}
+use Rattle.semantics.specs.Step.{after, heldCell, sameCell, swapped, step, passed, placeOf}
 use Rattle.semantics.specs.Step as rules
-use Rattle.semantics.specs.Words.{encode, decodeOperation, answerWord, narrowSetting, isKind, kindBits, totalBits, homeIn}
-use Rattle.semantics.proofs.RunPacks.{Stands}
-use Rattle.semantics.proofs.Words.{Packs, decode-encode, encode-allowed, same-words, live-bounds}
-use Rattle.turn.specs.declared.Taken.{Taken}
-use Rattle.turn.specs.Turn.{turnOf, heldOf, readTurn, swapOf, readIf, swapIf}
-use Rattle.step.specs.declared.Progress.{Progress}
-use Rattle.step.specs.declared.Event.{Event}
-use Rattle.step.specs.declared.Event.the-variants.{Passed, Held as WordHeld, Lost, Finished}
+use Rattle.semantics.specs.Words.{settingAt, isKind, isLiveKey, homeIn}
+use Rattle.rule.specs.declared.Operation.{Operation as OperationParts}
+use Rattle.rule.specs.declared.Cell.{Cell as CellParts}
+use Rattle.rule.specs.declared.Answer.{Answer as AnswerParts}
+use Rattle.rule.specs.Values.{operationOf, cellOf, cellParts, answerParts}
+use Rattle.semantics.specs.Words.{cellFrom}
+use Rattle.turn.specs.declared.Turn.the-variants.{Lose, Finish, Refuse}
+use Rattle.turn.specs.Turn.{heldParts, turnParts, stores, leftBy, stepOf}
+use Rattle.step.specs.declared.Record.{Record}
 use Rattle.step.specs.declared.Stepped.{Stepped}
-use Rattle.step.specs.Progress.{following, finishing, turned, turnEvent, taken, leftBy, stepTaken}
-use Rattle.step.proofs.Steps.{within, step-takes}
-
--- the event of a turn
-unfoldable pub eventOf : Turn Total → Event
-eventOf passes = Passed
-eventOf (holds h) = WordHeld
-eventOf loses = Lost
-eventOf (finishes a) = Finished
+use Rattle.step.specs.Record.{readingAt, begun, following, stageHeld, totalHeld, holdingWord, finishing, turned, heldAt, standing, isWithin, pendingOf, leftAt, stepTaken}
+use Rattle.step.proofs.Steps.{within, step-within, step-none}
 
 -- the following cell of the one at p passed is the one at p + 1
 following-mod : (c n : ℕ) → 0 < c → following c (n % c) ≡ suc n % c
@@ -44,144 +36,170 @@ following-mod c n h =
       | no q ↦ rw (ne-eqb (n % c + 1) c q) (sym (suc-mod n c ∙ mod-eq-of-lt (omega (arith, mod-lt n h)) ∙ omega arith))
     ]
 
--- the record of an operation of key k, in c cells
+-- the record of an operation of key k, in c cells: it stands p cells after the key's home; and that of one that has finished
 module _ (c k : ℕ) where
-  abbrev S : Setting
-  S = narrowSetting c
+  abbrev place : ℕ → ℕ
+  place p = (homeIn c k + p) % c
 
-  unfoldable pub recordOf : State Total → Progress
-  recordOf (pending (reading p)) = record { at = placeOf S k p; passed = p; holds = false; held = 0; answer = 0 }
-  recordOf (pending (holding p h)) = record { at = placeOf S k p; passed = p; holds = true; held = encode (heldCell S k h); answer = 0 }
-  recordOf (finished a) = finishing (answerWord (some a))
+  unfoldable pub recordOf : State Total → Record
+  recordOf (pending (reading p)) = readingAt (place p) p
+  recordOf (pending (holding p h)) = holdingWord (readingAt (place p) p) (heldParts h)
+  recordOf (finished a) = finishing (answerParts a)
 
-  next-place : (p : ℕ) → 0 < c → following c (placeOf S k p) ≡ placeOf S k (suc p)
-  unfolding placeOf
+  next-place : (p : ℕ) → 0 < c → following c (place p) ≡ place (suc p)
   next-place p h = following-mod c (homeIn c k + p) h ∙ ap (λ (z : ℕ). z % c) (omega arith)
 
-  -- a record turns as the state does
-  turned-is : 0 < c → (s : Pending Total) (t : Turn Total)
-      → turned c (recordOf (pending s)) (turnOf c k t) ≡ recordOf (after (passed S s) t)
-  unfolding turned turnOf recordOf after passed
-  turned-is size s t = go s t
-    where
-      moved : (p : ℕ) → record { at = following c (placeOf S k p); passed = p + 1; holds = false; held = 0; answer = 0 } ≡ recordOf (pending (reading (suc p)))
-      moved p = let one : p + 1 ≡ suc p = omega arith in λ i. record { at = next-place p size i; passed = one i; holds = false; held = 0; answer = 0 }
+  -- "It begins reading at the key's home, with 0 cells passed."
+  pub record-fresh : homeIn c k < c → recordOf fresh ≡ begun (homeIn c k)
+  unfolding recordOf fresh
+  record-fresh below = ap begun (ap (λ (z : ℕ). z % c) (omega arith) ∙ mod-eq-of-lt below)
 
-      go : (s : Pending Total) (t : Turn Total)
-          → turned c (recordOf (pending s)) (turnOf c k t) ≡ recordOf (after (passed S s) t)
-      go (reading p) passes = moved p
-      go (reading p) (holds h) = refl
-      go (reading p) loses = refl
-      go (reading p) (finishes a) = refl
-      go (holding p h) passes = moved p
-      go (holding p h) (holds g) = refl
-      go (holding p h) loses = refl
-      go (holding p h) (finishes a) = refl
+  module _ (ceiling : ℕ) where
+    abbrev S : Setting
+    S = settingAt ceiling c
 
-  event-is : (t : Turn Total) → turnEvent (turnOf c k t) ≡ eventOf t
-  unfolding turnEvent turnOf eventOf
-  event-is passes = refl
-  event-is (holds h) = refl
-  event-is loses = refl
-  event-is (finishes a) = refl
+    -- where the record of an unfinished operation stands
+    pub record-at : (s : Pending Total) → recordOf (pending s) .at ≡ placeOf S k (passed S s)
+    unfolding recordOf passed placeOf
+    record-at (reading p) = refl
+    record-at (holding p h) = refl
 
-  -- where the record of an unfinished operation stands
-  pub record-at : (s : Pending Total) → recordOf (pending s) .at ≡ placeOf S k (passed S s)
-  unfolding recordOf passed
-  record-at (reading p) = refl
-  record-at (holding p h) = refl
+    pub record-passed : (s : Pending Total) → recordOf (pending s) .passed ≡ passed S s
+    unfolding recordOf passed
+    record-passed (reading p) = refl
+    record-passed (holding p h) = refl
 
-  record-passed : (s : Pending Total) → Stands c k (pending s) → recordOf (pending s) .passed < c
-  unfolding recordOf
-  record-passed (reading p) b = b
-  record-passed (holding p h) b = b .0
+    record-within : 0 < c → (s : Pending Total) → passed S s < c → isWithin c (recordOf (pending s)) ≡ true
+    unfolding placeOf
+    record-within size s less =
+        within c (recordOf (pending s)) (omega (arith, record-at s, mod-lt (homeIn c k + passed S s) size)) (omega (arith, record-passed s))
 
-  record-unfinished : (s : Pending Total) → recordOf (pending s) .answer ≡ 0
-  unfolding recordOf
-  record-unfinished (reading p) = refl
-  record-unfinished (holding p h) = refl
+    -- a record turns as the state does
+    turned-is : 0 < c → (s : Pending Total) (t : Turn Total) → turned c (recordOf (pending s)) (turnParts t) ≡ recordOf (after (passed S s) t)
+    unfolding turned turnParts recordOf after passed
+    turned-is size s t = go s t
+      where
+        moved : (p : ℕ) → readingAt (following c (place p)) (p + 1) ≡ recordOf (pending (reading (suc p)))
+        moved p = ap₂ readingAt (next-place p size) (omega arith)
 
-  -- the held word stands for what is held
-  held-back : (h : Held Total) → Packs (heldCell S k h) → heldOf (encode (heldCell S k h)) ≡ h
-  unfolding heldOf encode heldCell
-  held-back vacant q = refl
-  held-back (mine t) q =
-      let some-key : k * 65536 + t .amount ≡ 0 → ⊥ = λ e. omega (arith, live-bounds k (q .is-live)) in
-      let back : totalBits (k * 65536 + t .amount) ≡ t .amount = omega (arith, q .small) in
-      rw (ne-eqb (k * 65536 + t .amount) 0 some-key) (ap mine (ap narrow back ∙ sym (q .plain)))
+        go : (s : Pending Total) (t : Turn Total) → turned c (recordOf (pending s)) (turnParts t) ≡ recordOf (after (passed S s) t)
+        go (reading p) passes = moved p
+        go (reading p) (holds g) = refl
+        go (reading p) loses = refl
+        go (reading p) (finishes a) = refl
+        go (holding p h) passes = moved p
+        go (holding p h) (holds g) = refl
+        go (holding p h) loses = refl
+        go (holding p h) (finishes a) = refl
 
-  -- comparing words is comparing cells
-  same-held : (h : Held Total) (x : Cell Total) → Packs x → Packs (heldCell S k h)
-      → eqb (encode x) (encode (heldCell S k h)) ≡ sameCell S x (heldCell S k h)
-  same-held h x p q =
-      sym (same-words c (encode x) (encode (heldCell S k h)) (encode-allowed x p) (encode-allowed (heldCell S k h) q))
-      ∙ ap₂ (sameCell S) (decode-encode x p) (decode-encode (heldCell S k h) q)
+  -- the record of an unfinished operation says where it stands
+  record-stands : (s : Pending Total) → let r = recordOf (pending s) in standing (r .stage) (r .passed) (r .total) ≡ some s
+  unfolding recordOf standing heldAt stageHeld totalHeld heldParts
+  record-stands (reading p) = refl
+  record-stands (holding p vacant) = refl
+  record-stands (holding p (mine t)) = refl
 
--- a step of an operation of a known kind, at the record of an unfinished state and the word of a cell
-module _ (c operation : ℕ) (known : isKind (kindBits operation) ≡ true) where
+-- what a turn of the code says of the turn of the rules
+pub lost-turn : (t : Turn Total) → turnParts t ≡ Lose → t ≡ loses
+unfolding turnParts
+lost-turn passes e = cc
+lost-turn (holds h) e = cc
+lost-turn loses e = refl
+lost-turn (finishes a) e = cc
+
+unfoldable pub answerFrom : Turn Total → Answer Total
+answerFrom passes = absent
+answerFrom (holds h) = absent
+answerFrom loses = absent
+answerFrom (finishes a) = a
+
+pub finished-turn : (t : Turn Total) {a : AnswerParts} → turnParts t ≡ Finish a → (t ≡ finishes (answerFrom t)) × (a ≡ answerParts (answerFrom t))
+unfolding turnParts answerFrom
+finished-turn passes e = (cc, absurd (let z : _≡_ {A = ℕ} 0 1 = cc in omega arith))
+finished-turn (holds h) e = (cc, absurd (let z : _≡_ {A = ℕ} 0 1 = cc in omega arith))
+finished-turn loses e = (cc, absurd (let z : _≡_ {A = ℕ} 0 1 = cc in omega arith))
+finished-turn (finishes b) e = (refl, cc)
+
+-- a cell whose key is live where it has one is what its parts say
+abbrev pub Keyed : Cell Total → Type 0
+Keyed empty = Unit {0}
+Keyed tombstone = Unit {0}
+Keyed (live k t) = isLiveKey k ≡ true
+
+pub cell-back : (x : Cell Total) → Keyed x → cellOf (cellParts x) ≡ x
+unfolding cellFrom cellParts isLiveKey
+cell-back empty h = refl
+cell-back tombstone h = refl
+cell-back (live k t) h = ap (λ (z : Bool). cond z (live k t) (cond (eqb k 0) empty tombstone)) h
+
+-- one step of an operation of a known kind, at the record of an unfinished state
+module _ (ceiling c : ℕ) (operation : OperationParts) (known : isKind (operation .kind) ≡ true) (s : Pending Total) (size : 0 < c)
+    (less : passed (settingAt ceiling c) s < c) where
   abbrev o : Operation Total
-  o = decodeOperation operation
+  o = operationOf operation
 
-  abbrev by-rules : Pending Total → Cell Total → Taken
-  by-rules s x =
-      let r = step (narrowSetting c) o s x in
-      record { word = encode (r .cell); turn = turnOf c (o .key) (r .turn) }
+  abbrev record-now : Record
+  record-now = recordOf c (operation .key) (pending s)
 
-  taken-is : (s : Pending Total) (x : Cell Total) → Packs x → Stands c (o .key) (pending s)
-      → taken c operation (recordOf c (o .key) (pending s)) (encode x) ≡ by-rules s x
-  unfolding taken recordOf readIf swapIf readTurn swapOf step swapped turnOf
-  taken-is (reading p) x q b = rw (known, decode-encode x q)
-  taken-is (holding p h) x q b =
-      let k = o .key in
-      let S = narrowSetting c in
-      rw (known, same-held c k h x q (b .1), held-back c k h (b .1), decode-encode x q) (go (sameCell S x (heldCell S k h)))
+  abbrev stepped : Cell Total → rules.Stepped Total
+  stepped x = step (settingAt ceiling c) o s x
+
+  abbrev record-after : Cell Total → Record
+  record-after x = recordOf c (operation .key) (after (passed (settingAt ceiling c) s) (stepped x .turn))
+
+  -- on any cell: what is left is what the rules leave
+  pub step-is : (x : CellParts) → stepTaken ceiling c operation record-now x ≡ record { left = leftBy s x (stepped (cellOf x)); progress = record-after (cellOf x) }
+  unfolding leftAt stepOf leftBy
+  step-is x =
+      sym (step-within ceiling c operation record-now x (record-within c (operation .key) ceiling size s less) left-is)
+      ∙ ap (λ (r : Record). record { left = leftBy s x (stepped (cellOf x)); progress = r }) (turned-is c (operation .key) ceiling size s (stepped (cellOf x) .turn))
     where
-      go : (z : Bool)
-          → let S = narrowSetting c in
-          let leaves : ℕ → Taken = λ w. record { word = w; turn = turnOf c (o .key) (swapped S o h x z .turn) } in
-          leaves (cond z (encode (swapped S o h x z .cell)) (encode x)) ≡ leaves (encode (swapped S o h x z .cell))
-      go true = refl
-      go false = refl
+      left-is : leftBy s x (stepped (cellOf x)) ≡ leftAt ceiling c operation (standing (record-now .stage) (record-now .passed) (record-now .total)) x
+      left-is =
+          ap (λ (z : Bool). cond z (leftBy s x (stepped (cellOf x))) (record { stores = false; cell = x; turn = Refuse })) (sym known)
+          ∙ ap (λ (p : Option (Pending Total)). leftAt ceiling c operation p x) (sym (record-stands c (operation .key) s))
 
-  -- so one step of the code is one step of the rules
-  module _ (cells : List (Cell Total)) (s : Pending Total) (size : 0 < c) (long : length cells ≡ c)
-      (packs : (i : ℕ) → Packs (getD cells i empty)) (stands : Stands c (o .key) (pending s)) where
-    abbrev record-now : Progress
-    record-now = recordOf c (o .key) (pending s)
+  -- a cell that is not stored stays as it was
+  pub kept-cell : (x : Cell Total) → stores s (stepped x .turn) ≡ false → stepped x .cell ≡ x
+  unfolding step swapped stores
+  kept-cell x e = go s e
+    where
+      S : Setting
+      S = settingAt ceiling c
 
-    abbrev place : ℕ
-    place = placeOf (narrowSetting c) (o .key) (passed (narrowSetting c) s)
+      swap : (p : ℕ) (h : Held Total) (z : Bool) → stores (holding p h) (swapped S o h x z .turn) ≡ false → swapped S o h x z .cell ≡ x
+      swap p h true q = absurd (true≢false q)
+      swap p h false q = refl
 
-    abbrev stepped : rules.Stepped Total
-    stepped = step (narrowSetting c) o s (getD cells place empty)
+      go : (s : Pending Total) → stores s (step S o s x .turn) ≡ false → step S o s x .cell ≡ x
+      go (reading p) q = refl
+      go (holding p h) q = swap p h (sameCell S x (heldCell S (o .key) h)) q
 
-    words-long : length (map encode cells) ≡ c
-    words-long = length-map cells encode ∙ long
+  -- so on the parts of a cell the parts of what the rules leave there are left
+  pub step-of-cell : (x : Cell Total) → Keyed x → stepTaken ceiling c operation record-now (cellParts x)
+      ≡ record {
+        left = record { stores = stores s (stepped x .turn); cell = cellParts (stepped x .cell); turn = turnParts (stepped x .turn) };
+        progress = record-after x;
+      }
+  unfolding leftBy
+  step-of-cell x keyed = step-is (cellParts x) ∙ ap (λ (y : Cell Total). by-rules y) (cell-back x keyed) ∙ ap (λ (y : CellParts). stored y) (left-cell (stores s (stepped x .turn)) refl)
+    where
+      by-rules : Cell Total → Stepped
+      by-rules y = record { left = leftBy s (cellParts x) (stepped y); progress = record-after y }
 
-    taken-here : by-rules s (getD cells place empty) ≡ taken (length (map encode cells)) operation record-now (getD (map encode cells) (record-now .at) 0)
-    unfolding encode
-    taken-here =
-        sym (taken-is s (getD cells place empty) (packs place) stands)
-        ∙ ap₂ (λ n w. taken n operation record-now w) (sym words-long)
-        (sym (List·getD-map encode cells place empty) ∙ ap (λ i. getD (map encode cells) i 0) (sym (record-at c (o .key) s)))
+      stored : CellParts → Stepped
+      stored y = record { left = record { stores = stores s (stepped x .turn); cell = y; turn = turnParts (stepped x .turn) }; progress = record-after x }
 
-    pub step-is : stepTaken (map encode cells) operation record-now
-        ≡ record {
-          word = encode (stepped .cell);
-          stepped = record { progress = recordOf c (o .key) (after (passed (narrowSetting c) s) (stepped .turn)); event = eventOf (stepped .turn) };
-        }
-    unfolding leftBy placeOf
-    step-is =
-        sym (step-takes (map encode cells) operation record-now
-        (within (length (map encode cells)) record-now
-        (omega (arith, record-at c (o .key) s, mod-lt (homeIn c (o .key) + passed (narrowSetting c) s) size, words-long))
-        (omega (arith, record-passed c (o .key) s stands, words-long))
-        ∙ eq-eqb _ 0 (record-unfinished c (o .key) s))
-        taken-here)
-        ∙ (λ i. record {
-          word = encode (stepped .cell);
-          stepped = record {
-            progress = (ap (λ n. turned n record-now (turnOf c (o .key) (stepped .turn))) words-long ∙ turned-is c (o .key) size s (stepped .turn)) i;
-            event = event-is c (o .key) (stepped .turn) i;
-          };
-        })
+      left-cell : (z : Bool) → stores s (stepped x .turn) ≡ z → cond z (cellParts (stepped x .cell)) (cellParts x) ≡ cellParts (stepped x .cell)
+      left-cell true e = refl
+      left-cell false e = ap cellParts (sym (kept-cell x e))
+
+-- "An entry naming a finished row changes nothing"
+pub step-idle : (ceiling c k : ℕ) (operation : OperationParts) (a : Answer Total) (x : CellParts)
+    → record { left = record { stores = false; cell = x; turn = Refuse }; progress = recordOf c k (finished a) } ≡ stepTaken ceiling c operation (recordOf c k (finished a)) x
+unfolding pendingOf standing recordOf
+step-idle ceiling c k operation a x = step-none ceiling c operation (recordOf c k (finished a)) x (go (isWithin c (finishing (answerParts a)))) refl
+  where
+    go : (z : Bool) → _≡_ {A = Option (Pending Total)} (cond z none none) none
+    go true = refl
+    go false = refl

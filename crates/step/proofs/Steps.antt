@@ -1,64 +1,67 @@
--- What a step comes to, by what the code looks at: whether the record holds a word, and whether it is that of an unfinished operation.
+-- What a step comes to, by what the code looks at: the stage of the record, and whether it is within the table.
 -- Assumes nothing.
 use mathlib.Core.Path.{_≡_, sym, ap, ap₂, _∙_}
 use Prim.Native.Nat.{ℕ, _≤_, _<_}
-use mathlib.Core.Bool.{Bool, true, false, cond, _&&_, and-false}
-use mathlib.Core.List.{List}
-use lib.Dec.{eqb, ltb, ltb→lt}
-use lib.ListN.{length, getD, set}
-use lib.Seq.{set-getD}
-use borrow.Author.Tests.{lt-ltb, le-ltb}
-use Rattle.semantics.specs.Words.{isKind, kindBits}
+use mathlib.Core.Bool.{Bool, true, false, cond, _&&_}
+use mathlib.Core.Option.{Option, none, some}
+use lib.Dec.{ltb, ltb→lt}
+use borrow.Author.Tests.{eq-eqb, ne-eqb, lt-ltb, le-ltb}
+use Rattle.semantics.specs.declared.Total.{Total}
+use Rattle.semantics.specs.Step.{Pending, reading, holding}
 use Rattle.semantics.proofs.Booleans.{both, true-T}
-use Rattle.turn.specs.declared.Taken.{Taken}
+use Rattle.rule.specs.declared.Operation.{Operation as OperationParts}
+use Rattle.rule.specs.declared.Cell.{Cell as CellParts}
 use Rattle.turn.specs.declared.Turn.the-variants.{Refuse}
-use Rattle.turn.specs.Turn.{readIf, swapIf}
-use Rattle.step.specs.declared.Event.the-variants.{Refused}
-use Rattle.step.specs.declared.Progress.{Progress}
-use Rattle.step.specs.Progress.{taken, isPending, Left, leftBy, stepTaken, turned, turnEvent}
+use Rattle.turn.specs.declared.Left.{Left}
+use Rattle.step.specs.declared.Record.{Record}
+use Rattle.step.specs.declared.Stepped.{Stepped}
+use Rattle.step.specs.Record.{turned, heldAt, standing, isWithin, pendingOf, leftAt, stepTaken}
 
--- a record that holds a word swaps, and one that holds none reads
-pub taken-by : (c operation : ℕ) (p : Progress) (w : ℕ) {b : Bool} → p .holds ≡ b
-    → let known = isKind (kindBits operation) in
-    cond b (swapIf c operation known (p .held) w) (readIf c operation known (p .passed) w) ≡ taken c operation p w
-unfolding taken
-taken-by c operation p w e =
-    let known = isKind (kindBits operation) in
-    ap (λ (b : Bool). cond b (swapIf c operation known (p .held) w) (readIf c operation known (p .passed) w)) (sym e)
+-- where a record stands, by its stage
+module _ (n p : ℕ) (t : Total) where
+  abbrev by-tests : Bool → Bool → Option (Pending Total)
+  by-tests reads holds = cond reads (some (reading p)) (cond holds (some (holding p (heldAt n t))) none)
 
--- a record is that of an unfinished operation, or not
-module _ (c : ℕ) (p : Progress) where
-  pub outside : c ≤ p .at → isPending c p ≡ false
-  unfolding isPending
-  outside h = ap (λ b. b && (ltb (p .passed) c && eqb (p .answer) 0)) (le-ltb (p .at) c h)
+  pub stands-reading : n ≡ 0 → some (reading p) ≡ standing n p t
+  unfolding standing
+  stands-reading e = ap (λ (z : Bool). by-tests z (ltb n 3)) (sym (eq-eqb n 0 e))
 
-  pub all-passed : c ≤ p .passed → isPending c p ≡ false
-  unfolding isPending
-  all-passed h = ap (λ b. ltb (p .at) c && (b && eqb (p .answer) 0)) (le-ltb (p .passed) c h) ∙ and-false (ltb (p .at) c)
+  pub stands-holding : (n ≡ 0 → ⊥) → n < 3 → some (holding p (heldAt n t)) ≡ standing n p t
+  unfolding standing
+  stands-holding e l = ap₂ by-tests (sym (ne-eqb n 0 e)) (sym (lt-ltb n 3 l))
 
-  pub within : p .at < c → p .passed < c → isPending c p ≡ eqb (p .answer) 0
-  unfolding isPending
-  within at less = ap₂ (λ a b. a && (b && eqb (p .answer) 0)) (lt-ltb (p .at) c at) (lt-ltb (p .passed) c less)
+  pub stands-not : (n ≡ 0 → ⊥) → 3 ≤ n → none ≡ standing n p t
+  unfolding standing
+  stands-not e l = ap₂ by-tests (sym (ne-eqb n 0 e)) (sym (le-ltb n 3 l))
 
-  pub pending : isPending c p ≡ true → (p .at < c) × (p .passed < c)
-  unfolding isPending
-  pending e =
-      let (at, rest) = both (ltb (p .at) c) (ltb (p .passed) c && eqb (p .answer) 0) (true-T _ e) in
-      (ltb→lt (p .at) c at, ltb→lt (p .passed) c (both (ltb (p .passed) c) (eqb (p .answer) 0) rest .0))
+-- a record within the table stands where its stage says, and one outside it takes no step
+module _ (c : ℕ) (r : Record) where
+  pub within : r .at < c → r .passed < c → isWithin c r ≡ true
+  unfolding isWithin
+  within at less = ap₂ (λ a b. a && b) (lt-ltb (r .at) c at) (lt-ltb (r .passed) c less)
 
--- a record of an unfinished operation takes its step, and any other leaves all as it was
-module _ (cells : List ℕ) (operation : ℕ) (p : Progress) where
-  abbrev judged : Bool → Left
-  judged b =
-      let w = getD cells (p .at) 0 in
-      leftBy (length cells) p (cond b (taken (length cells) operation p w) (record { word = w; turn = Refuse }))
+  pub bounds : isWithin c r ≡ true → (r .at < c) × (r .passed < c)
+  unfolding isWithin
+  bounds e =
+      let (at, less) = both (ltb (r .at) c) (ltb (r .passed) c) (true-T _ e) in
+      (ltb→lt (r .at) c at, ltb→lt (r .passed) c less)
 
-  pub step-takes : isPending (length cells) p ≡ true
-      → {t : Taken} → t ≡ taken (length cells) operation p (getD cells (p .at) 0) → leftBy (length cells) p t ≡ stepTaken cells operation p
+  pub pending-is : {z : Bool} → isWithin c r ≡ z → pendingOf c r ≡ cond z (standing (r .stage) (r .passed) (r .total)) none
+  unfolding pendingOf
+  pending-is e = ap (λ (z : Bool). cond z (standing (r .stage) (r .passed) (r .total)) none) e
+
+-- a step by where its record stands
+module _ (ceiling c : ℕ) (operation : OperationParts) (r : Record) (x : CellParts) where
+  abbrev by-left : Left → Stepped
+  by-left l = record { left = l; progress = turned c r (l .turn) }
+
+  pub step-within : isWithin c r ≡ true → {l : Left} → l ≡ leftAt ceiling c operation (standing (r .stage) (r .passed) (r .total)) x
+      → by-left l ≡ stepTaken ceiling c operation r x
   unfolding stepTaken
-  step-takes e is = ap (leftBy (length cells) p) is ∙ ap judged (sym e)
+  step-within e is = ap by-left (is ∙ ap (λ (s : Option (Pending Total)). leftAt ceiling c operation s x) (sym (pending-is c r e)))
 
-  pub step-refuses : isPending (length cells) p ≡ false
-      → (record { progress = p; event = Refused } ≡ stepTaken cells operation p .stepped) × (cells ≡ set cells (p .at) (stepTaken cells operation p .word))
-  unfolding stepTaken leftBy turned turnEvent
-  step-refuses e = (ap (λ b. judged b .stepped) (sym e), sym (set-getD cells (p .at) 0) ∙ ap (λ b. set cells (p .at) (judged b .word)) (sym e))
+  pub step-none : pendingOf c r ≡ none → {l : Left} → l ≡ record { stores = false; cell = x; turn = Refuse }
+      → record { left = l; progress = r } ≡ stepTaken ceiling c operation r x
+  unfolding stepTaken leftAt turned
+  step-none e is =
+      ap (λ (l : Left). record { left = l; progress = r }) is ∙ ap (λ (s : Option (Pending Total)). by-left (leftAt ceiling c operation s x)) (sym e)

@@ -1,190 +1,234 @@
-// One atomic step of one operation (document 01, "What one step does"). The record of an operation
-// turns in one of four ways, each a method by value; a step reads the cell at which its record
-// stands and stores at most that cell. What is offered takes every input: a record that is not one
-// of an unfinished operation, or a kind that is none, takes no step, and nothing changes.
+// One atomic step of one operation (document 01, "What one step does"), on the one cell that it reads.
+// The record of an operation turns in one of four ways, each a method by value; above them stands the
+// step over a lent record. What is offered takes every input: a record that is not one of an unfinished
+// operation, or a number that is no kind, takes no step, and nothing changes.
 ghost use mathlib.Core.Path.{_≡_};
+ghost use mathlib.Core.Bool.{false};
 ghost use Prim.Native.Nat.{_<_};
-ghost use lib.ListN.{set};
-ghost use Rattle.step.specs.Progress.{passing, holding, losing, finishing, turned, turnEvent, taken, isPending, stepTaken};
-use turn::Taken;
+ghost use Rattle.turn.specs.declared.Turn.the-variants.{Refuse};
+ghost use Rattle.turn.specs.Turn.{heldOf};
+ghost use Rattle.step.specs.Record.{readingAt, passing, holdingWord, losing, finishing, turned, isWithin, heldAt, standing, leftAt, stepTaken};
+use rule::Answer;
+use rule::Cell;
+use rule::NOTHING;
+use rule::Operation;
+use semantics::Total;
+use turn::Held;
+use turn::Left;
 use turn::Turn;
 use turn::compare_and_swap;
 use turn::read;
 
-// How far an operation has come (document 01: a row's record): the cell that it reads next, how
-// many cells it has passed, the word that it holds if it holds one, and its answer, 0 until it
-// finishes.
-pub struct Progress {
+// Where a record stands: reading, holding the empty word, holding its own key with a total, or
+// finished.
+pub const READING: u32 = 0;
+
+pub const VACANT: u32 = 1;
+
+pub const MINE: u32 = 2;
+
+pub const FINISHED: u32 = 3;
+
+// How far an operation has come (document 01: a row's record): the cell that it reads next, how many
+// cells it has passed, its stage, and the total that it holds; once it has finished, the code and the
+// total of its answer. A run stores one for each operation and copies one at each entry, so its fields
+// leave no room between them.
+pub struct Record {
     pub at: usize,
     pub passed: usize,
-    pub holds: bool,
-    pub held: u32,
-    pub answer: u32,
+    pub stage: u32,
+    pub code: u32,
+    pub total: Total,
 }
 
-// What a step did: one of the four turns of a record, or no step was taken.
-pub enum Event {
-    Passed,
-    Held,
-    Lost,
-    Finished,
-    Refused,
-}
-
-// What a step leaves of its operation's record, and the event.
+// What a step leaves of its cell, and of its operation's record.
 pub struct Stepped {
-    pub progress: Progress,
-    pub event: Event,
+    pub left: Left,
+    pub progress: Record,
 }
 
-impl Progress {
-    // Whether it is the record of an unfinished operation in c cells.
-    fn is_pending(self, c: usize) -> bool
-        ensures { λ r. ⌜ r ≡ isPending c self ⌝ }
+impl Record {
+    // Whether it stands at one of c cells, with fewer than c passed.
+    fn is_within(self, c: usize) -> bool
+        ensures { λ r. ⌜ r ≡ isWithin c self ⌝ }
     {
         if self.at < c {
-            if self.passed < c {
-                return self.answer == 0;
-            }
+            return self.passed < c;
         }
         false
     }
 
     // On to the following cell of c.
-    fn pass(self, c: usize) -> Progress
+    fn pass(self, c: usize) -> Record
         requires { ⌜ (self .at < c) × (self .passed < c) ⌝ }
         ensures { λ r. ⌜ r ≡ passing c self ⌝ }
     {
         let next = self.at + 1;
         let passed = self.passed + 1;
         if next == c {
-            return Progress {
-                at: 0,
-                passed: passed,
-                holds: false,
-                held: 0,
-                answer: 0,
-            };
+            return reading(0, passed);
         }
-        Progress {
-            at: next,
-            passed: passed,
-            holds: false,
-            held: 0,
-            answer: 0,
-        }
+        reading(next, passed)
     }
 
     // A word that it has seen is held for the swap.
-    fn hold(self, word: u32) -> Progress
-        ensures { λ r. ⌜ r ≡ holding word self ⌝ }
+    fn hold(self, held: Held) -> Record
+        ensures { λ r. ⌜ r ≡ holdingWord self held ⌝ }
     {
-        Progress {
-            at: self.at,
-            passed: self.passed,
-            holds: true,
-            held: word,
-            answer: 0,
+        match held {
+            Held::Vacant => Record {
+                at: self.at,
+                passed: self.passed,
+                stage: VACANT,
+                code: 0,
+                total: NOTHING,
+            },
+            Held::Mine(total) => Record {
+                at: self.at,
+                passed: self.passed,
+                stage: MINE,
+                code: 0,
+                total: total,
+            },
         }
     }
 
     // The swap is lost: the same cell is read again.
-    fn lose(self) -> Progress
+    fn lose(self) -> Record
         ensures { λ r. ⌜ r ≡ losing self ⌝ }
     {
-        Progress {
-            at: self.at,
-            passed: self.passed,
-            holds: false,
-            held: 0,
-            answer: 0,
-        }
+        reading(self.at, self.passed)
     }
 
     // Nothing is left but the answer.
-    fn finish(self, answer: u32) -> Progress
+    fn finish(self, answer: Answer) -> Record
         ensures { λ r. ⌜ r ≡ finishing answer ⌝ }
     {
-        Progress {
+        let total = answer.total;
+        Record {
             at: 0,
             passed: 0,
-            holds: false,
-            held: 0,
-            answer: answer,
-        }
-    }
-
-    // No step is taken. A record that is made anew has no padding to hand on; one that is copied whole
-    // would drag its padding through every step.
-    fn keep(self) -> Progress
-        ensures { λ r. ⌜ r ≡ self ⌝ }
-    {
-        Progress {
-            at: self.at,
-            passed: self.passed,
-            holds: self.holds,
-            held: self.held,
-            answer: self.answer,
+            stage: FINISHED,
+            code: answer.code,
+            total: total,
         }
     }
 
     // The record after a turn.
-    fn turn(self, c: usize, turn: Turn) -> Progress
+    fn turn(self, c: usize, turn: Turn) -> Record
         requires { ⌜ (self .at < c) × (self .passed < c) ⌝ }
         ensures { λ r. ⌜ r ≡ turned c self turn ⌝ }
     {
         match turn {
             Turn::Pass => self.pass(c),
-            Turn::Hold(word) => self.hold(word),
+            Turn::Hold(held) => self.hold(held),
             Turn::Lose => self.lose(),
             Turn::Finish(answer) => self.finish(answer),
-            Turn::Refuse => self.keep(),
+            Turn::Refuse => self,
         }
     }
 }
 
-// The event of a turn, whatever the record.
-fn event_of(turn: Turn) -> Event
-    ensures { λ r. ⌜ r ≡ turnEvent turn ⌝ }
+// The record of an operation that reads.
+fn reading(at: usize, passed: usize) -> Record
+    ensures { λ r. ⌜ r ≡ readingAt at passed ⌝ }
 {
-    match turn {
-        Turn::Pass => Event::Passed,
-        Turn::Hold(word) => Event::Held,
-        Turn::Lose => Event::Lost,
-        Turn::Finish(answer) => Event::Finished,
-        Turn::Refuse => Event::Refused,
+    Record {
+        at: at,
+        passed: passed,
+        stage: READING,
+        code: 0,
+        total: NOTHING,
     }
 }
 
-// One step of a record that is not finished, on the one word that it reads.
-fn take(operation: u64, c: usize, progress: Progress, word: u32) -> Taken
-    ensures { λ r. ⌜ r ≡ taken c operation progress word ⌝ }
+// The word that is held, at a stage that holds one: the empty word, or the key with the total.
+fn held_at(stage: u32, total: Total) -> Held
+    ensures { λ r. ⌜ heldOf r ≡ heldAt stage total ⌝ }
 {
-    if progress.holds {
-        return compare_and_swap(operation, progress.held, word);
+    if stage == VACANT {
+        return Held::Vacant;
     }
-    read(operation, c, progress.passed, word)
+    Held::Mine(total)
 }
 
-// One step of an operation, by value: the cell at which its record stands is read, and at most that
-// cell is stored.
-pub fn step(cells: &mut [u32], operation: u64, progress: Progress) -> Stepped
-    ensures result { λ r. ⌜ r ≡ stepTaken (now (cells .entry)) operation progress .stepped ⌝ }
-    ensures cells { λ _. ⌜ now (cells .exit) ≡ set (now (cells .entry)) (progress .at) (stepTaken (now (cells .entry)) operation progress .word) ⌝ }
+// No step is taken.
+fn refused(cell: Cell) -> Left
+    ensures { λ r. ⌜ r ≡ record { stores = false; cell = cell; turn = Refuse } ⌝ }
 {
-    let c = cells.len();
-    let at = progress.at;
-    if progress.is_pending(c) {
-        let taken = take(operation, c, progress, cells[at]);
-        cells[at] = taken.word;
-        let turn = taken.turn;
+    Left {
+        stores: false,
+        cell: cell,
+        turn: Turn::Refuse,
+    }
+}
+
+// A step by its stage: a read, or the swap of one that holds a word.
+fn take(ceiling: u32, operation: Operation, c: usize, progress: Record, cell: Cell) -> Left
+    ensures { λ r. ⌜ r ≡ leftAt ceiling c operation (standing (progress .stage) (progress .passed) (progress .total)) cell ⌝ }
+{
+    let stage = progress.stage;
+    if stage == READING {
+        return read(ceiling, operation, c, progress.passed, cell);
+    }
+    if stage < FINISHED {
+        let total = progress.total;
+        return compare_and_swap(ceiling, operation, held_at(stage, total), cell);
+    }
+    refused(cell)
+}
+
+// One step of an operation, by value.
+fn act(ceiling: u32, operation: Operation, c: usize, from: Record, cell: Cell) -> Stepped
+    ensures { λ r. ⌜ r ≡ stepTaken ceiling c operation from cell ⌝ }
+{
+    if from.is_within(c) {
+        let left = take(ceiling, operation, c, from, cell);
+        let turn = left.turn;
         return Stepped {
-            progress: progress.turn(c, turn),
-            event: event_of(turn),
+            left: left,
+            progress: from.turn(c, turn),
         };
     }
     Stepped {
-        progress: progress.keep(),
-        event: Event::Refused,
+        left: refused(cell),
+        progress: from,
+    }
+}
+
+// One step over a lent record: the record changes in place, and what the step leaves of its cell is
+// handed back.
+pub fn advance(
+    cell: Cell,
+    ceiling: u32,
+    c: usize,
+    operation: Operation,
+    progress: &mut Record,
+) -> Left
+    ensures { λ r. ⌜ (r ≡ stepTaken ceiling c operation (now (progress .entry)) cell .left)
+        × (now (progress .exit) ≡ stepTaken ceiling c operation (now (progress .entry)) cell .progress) ⌝ }
+{
+    let stepped = act(ceiling, operation, c, *progress, cell);
+    *progress = stepped.progress;
+    stepped.left
+}
+
+// The same by value: a local record is lent and handed back. The run goes through here, so that the step
+// over a lent record is the one that is taken; an element of its array of records could be lent only in
+// a proof by hand.
+pub fn take_step(
+    cell: Cell,
+    ceiling: u32,
+    c: usize,
+    operation: Operation,
+    progress: Record,
+) -> Stepped
+    ensures { λ r. ⌜ r ≡ stepTaken ceiling c operation progress cell ⌝ }
+{
+    let mut record = progress;
+    let left = advance(cell, ceiling, c, operation, &mut record);
+    Stepped {
+        left: left,
+        progress: record,
     }
 }

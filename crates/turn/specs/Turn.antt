@@ -1,44 +1,64 @@
--- Document 01, "What one step does", at one word: what a read of it and a swap on it leave of the word, and how the operation's record
--- turns, for any words. The rules are those of semantics/specs/Step.antt.
+-- Document 01, "What one step does", at one cell: what a step leaves of the cell, and how the operation's record turns, for any values. The
+-- rules are those of semantics/specs/Step.antt.
 -- Assumes nothing.
 use Prim.Native.Nat.{ℕ}
-use mathlib.Core.Bool.{Bool, cond}
-use mathlib.Core.Option.{some}
-use lib.Dec.{eqb}
-use Rattle.semantics.specs.Totals.{Total, narrow}
-use Rattle.semantics.specs.Step.{Turn, passes, loses, holds, finishes, Held, vacant, mine, reading, heldCell, swapped, step}
-use Rattle.semantics.specs.Words.{decode, encode, decodeOperation, answerWord, narrowSetting, totalBits}
-use Rattle.turn.specs.declared.Turn as declared
+use mathlib.Core.Bool.{Bool, true, false, cond}
+use Rattle.semantics.specs.declared.Total.{Total}
+use Rattle.semantics.specs.Step.{Turn, passes, loses, holds, finishes, Held, vacant, mine, Sight, own, free, other}
+use Rattle.semantics.specs.Step.{Pending, reading, holding, Stepped, read, bounded, step}
+use Rattle.semantics.specs.Words.{settingAt, isKind}
+use Rattle.rule.specs.declared.Operation.{Operation as OperationParts}
+use Rattle.rule.specs.declared.Cell.{Cell as CellParts}
+use Rattle.rule.specs.Values.{operationOf, cellOf, cellParts, answerParts}
+use Rattle.turn.specs.declared.Held.{Held as HeldParts}
+use Rattle.turn.specs.declared.Held.the-variants.{Vacant, Mine}
+use Rattle.turn.specs.declared.Sight.{Sight as SightParts}
+use Rattle.turn.specs.declared.Sight.the-variants.{Own, Free, Other}
+use Rattle.turn.specs.declared.Turn.{Turn as TurnParts}
 use Rattle.turn.specs.declared.Turn.the-variants.{Pass, Hold, Lose, Finish, Refuse}
-use Rattle.turn.specs.declared.Taken.{Taken}
+use Rattle.turn.specs.declared.Left.{Left}
 
--- a turn of document 01 as the code says it, of an operation of key k
-unfoldable pub turnOf : ℕ → ℕ → Turn Total → declared.Turn
-turnOf c k passes = Pass
-turnOf c k (holds h) = Hold (encode (heldCell (narrowSetting c) k h))
-turnOf c k loses = Lose
-turnOf c k (finishes a) = Finish (answerWord (some a))
+-- what the code says that it sees and holds; and what it says of what is held and of a turn
+unfoldable pub sightOf : SightParts → Sight Total
+sightOf (Own t) = own t
+sightOf Free = free
+sightOf Other = other
 
--- the held word: the empty word, or the operation's key with a total
-unfoldable pub heldOf : ℕ → Held Total
-heldOf w = cond (eqb w 0) vacant (mine (narrow (totalBits w)))
+unfoldable pub heldOf : HeldParts → Held Total
+heldOf Vacant = vacant
+heldOf (Mine t) = mine t
 
-module _ (c operation : ℕ) where
-  -- "Reading, on the word now in the cell", with p cells passed
-  unfoldable pub readTurn : ℕ → ℕ → declared.Turn
-  readTurn p w = turnOf c (decodeOperation operation .key) (step (narrowSetting c) (decodeOperation operation) (reading p) (decode w) .turn)
+unfoldable pub heldParts : Held Total → HeldParts
+heldParts vacant = Vacant
+heldParts (mine t) = Mine t
 
-  -- "Swapping, one step after holding": what a swap leaves, won or lost. A lost one leaves the word that is there, whatever it is.
-  unfoldable pub swapOf : Bool → ℕ → ℕ → Taken
-  swapOf won held w =
-      let o = decodeOperation operation in
-      let r = swapped (narrowSetting c) o (heldOf held) (decode w) won in
-      record { word = cond won (encode (r .cell)) w; turn = turnOf c (o .key) (r .turn) }
+unfoldable pub turnParts : Turn Total → TurnParts
+turnParts passes = Pass
+turnParts loses = Lose
+turnParts (holds h) = Hold (heldParts h)
+turnParts (finishes a) = Finish (answerParts a)
 
-  -- a number that is no kind does neither
-  unfoldable pub readIf : Bool → ℕ → ℕ → Taken
-  readIf known p w = record { word = w; turn = cond known (readTurn p w) Refuse }
+-- how a read turns, by what it sees
+unfoldable pub turnSeen : ℕ → ℕ → OperationParts → ℕ → Sight Total → TurnParts
+turnSeen ceiling c operation p v =
+    let S = settingAt ceiling c in
+    let o = operationOf operation in
+    turnParts (bounded S (o .kind) p (read S o v))
 
-  -- "if the cell still equals the held word": whole words are compared
-  unfoldable pub swapIf : Bool → ℕ → ℕ → Taken
-  swapIf known held w = cond known (swapOf (eqb w held) held w) (record { word = w; turn = Refuse })
+-- "if the cell still equals the held word, the new word is stored and the row finishes": a step stores if it finishes and held a word
+unfoldable pub stores : Pending Total → Turn Total → Bool
+stores (reading p) t = false
+stores (holding p h) passes = false
+stores (holding p h) loses = false
+stores (holding p h) (holds g) = false
+stores (holding p h) (finishes a) = true
+
+-- what a step leaves; a cell that it does not store stays as it was, whatever stands beside its key
+unfoldable pub leftBy : Pending Total → CellParts → Stepped Total → Left
+leftBy s x r = let new = stores s (r .turn) in record { stores = new; cell = cond new (cellParts (r .cell)) x; turn = turnParts (r .turn) }
+
+-- one step of an operation on the cell that it reads; a number that is no kind takes none
+unfoldable pub stepOf : ℕ → ℕ → OperationParts → Pending Total → CellParts → Left
+stepOf ceiling c operation s x =
+    cond (isKind (operation .kind)) (leftBy s x (step (settingAt ceiling c) (operationOf operation) s (cellOf x)))
+    (record { stores = false; cell = x; turn = Refuse })

@@ -1,52 +1,75 @@
-// What an operation does at the one word that its step reads (document 01, "What one step does"): a
-// read, or the compare-and-swap of one that holds a word. Each gives the word that it leaves and how
-// the operation's record turns. Both take every input: a number that is no kind takes no step.
+// What an operation does at the one cell that its step reads (document 01, "What one step does"): a
+// read, or the compare-and-swap of one that holds a word. Each gives the cell that it leaves and how
+// the operation's record turns, under any ceiling of totals. Both take every input: a number that is
+// no kind takes no step.
 ghost use mathlib.Core.Path.{_≡_};
-ghost use mathlib.Core.Bool.{true, cond, _&&_};
+ghost use mathlib.Core.Bool.{true, false, cond};
 ghost use Prim.Native.Nat.{ℕ, suc};
 ghost use lib.Dec.{eqb};
-ghost use Rattle.semantics.specs.Step.{makes};
-ghost use Rattle.semantics.specs.Words.{keyOf, totalBits, kindBits, operationKey, isLiveKey, isKind, decodeOperation, packedAnswer};
-ghost use Rattle.rule.specs.Rule.{ruleIf};
-ghost use Rattle.turn.specs.declared.Turn.the-variants.{Hold, Finish};
-ghost use Rattle.turn.specs.Turn.{readTurn, swapOf, readIf, swapIf};
-use operation::operation_amount;
-use operation::operation_key;
-use rule::Rule;
+ghost use Rattle.semantics.specs.Totals.{sameTotal};
+ghost use Rattle.semantics.specs.Cells.{live};
+ghost use Rattle.semantics.specs.Step.{makes, sight, own, sameCell, reading, holding, vacant, mine};
+ghost use Rattle.semantics.specs.Words.{isKind, kindOf, settingAt};
+ghost use Rattle.rule.specs.Values.{cellOf};
+ghost use Rattle.semantics.specs.Words.{nothing};
+ghost use Rattle.turn.specs.declared.Turn.the-variants.{Lose, Finish};
+ghost use Rattle.turn.specs.Turn.{sightOf, heldOf, turnSeen, stepOf};
+use rule::ABSENT;
+use rule::Answer;
+use rule::Cell;
+use rule::FULL;
+use rule::INSERTED;
+use rule::NOTHING;
+use rule::Operation;
 use rule::is_known;
 use rule::rule_of;
-use word::ABSENT;
-use word::FULL;
-use word::INSERTED;
-use word::cell_key;
-use word::cell_word;
-use word::is_live_key;
+use semantics::Total;
+
+// The word that an operation holds: the empty word, or its own key with a total.
+pub enum Held {
+    Vacant,
+    Mine(Total),
+}
 
 // How a record turns: it passes on, holds a word, loses its swap or finishes with an answer; or it
 // takes no step.
 pub enum Turn {
     Pass,
-    Hold(u32),
+    Hold(Held),
     Lose,
-    Finish(u32),
+    Finish(Answer),
     Refuse,
 }
 
-// The word that a step leaves in its cell, and how the record turns.
-pub struct Taken {
-    pub word: u32,
+// What a step leaves: whether it stores, its cell as it then is, and how the record turns.
+pub struct Left {
+    pub stores: bool,
+    pub cell: Cell,
     pub turn: Turn,
 }
 
-// Whether a word is a cell of the operation's key, which is live.
-fn is_own(operation: u64, word: u32) -> bool
-    ensures { λ r. ⌜ r ≡ (isLiveKey (operationKey operation) && eqb (operationKey operation) (keyOf word)) ⌝ }
+// What an operation sees in a cell: its own key with a total, an empty cell, or another key or a
+// tombstone.
+enum Sight {
+    Own(Total),
+    Free,
+    Other,
+}
+
+fn see(key: u16, cell: Cell) -> Sight
+    ensures { λ r. ⌜ sightOf r ≡ sight key (cellOf cell) ⌝ }
 {
-    let key = operation_key(operation);
-    if cell_key(word) == key {
-        return is_live_key(key);
+    let found = cell.key;
+    if found == 0 {
+        return Sight::Free;
     }
-    false
+    if found == key {
+        if key != 65535 {
+            let total = cell.total;
+            return Sight::Own(total);
+        }
+    }
+    Sight::Other
 }
 
 // Whether no cell of c is left once this one is passed too.
@@ -59,100 +82,167 @@ fn is_last(c: usize, passed: usize) -> bool
     false
 }
 
-// The operation's key has the total of the word: the read finishes, or holds the word.
-fn own(operation: u64, word: u32) -> Turn
-    requires { ⌜ (isKind (kindBits operation) ≡ true) × ((isLiveKey (operationKey operation) && eqb (operationKey operation) (keyOf word)) ≡ true) ⌝ }
-    ensures { λ r. ⌜ ((c p : ℕ) → r ≡ readTurn c operation p word) ⌝ }
+// The operation's key has a total: the read finishes, or holds the word.
+fn read_own(ceiling: u32, operation: Operation, total: Total) -> Turn
+    requires { ⌜ isKind (operation .kind) ≡ true ⌝ }
+    ensures { λ r. ⌜ ((c p : ℕ) → r ≡ turnSeen ceiling c operation p (own total)) ⌝ }
 {
-    let rule = rule_of(operation, word);
+    let rule = rule_of(ceiling, operation, total);
     if rule.stays {
-        return Turn::Finish(rule.answer);
+        let answer = rule.answer;
+        return Turn::Finish(answer);
     }
-    Turn::Hold(word)
+    Turn::Hold(Held::Mine(total))
 }
 
-// The operation's key is missing: the word is empty, or that of the last cell.
-fn missing(operation: u64, word: u32) -> Turn
-    requires { ⌜ isKind (kindBits operation) ≡ true ⌝ }
-    ensures { λ r. ⌜ r ≡ cond (makes (decodeOperation operation .kind)) (cond (eqb word 0) (Hold 0) (Finish (packedAnswer 7 0))) (Finish (packedAnswer 6 0)) ⌝ }
+// The operation's key is missing: a kind that makes it turns as is said, which is to hold the empty word
+// or to find the table full; any other finishes absent.
+fn missing(ceiling: u32, operation: Operation, made: Turn) -> Turn
+    requires { ⌜ isKind (operation .kind) ≡ true ⌝ }
+    ensures { λ r. ⌜ r ≡ cond (makes (kindOf (operation .kind))) made (Finish (record { code = 6; total = nothing })) ⌝ }
 {
-    let rule = rule_of(operation, word);
+    let rule = rule_of(ceiling, operation, NOTHING);
     if rule.makes {
-        if word != 0 {
-            return Turn::Finish(FULL);
+        return made;
+    }
+    Turn::Finish(Answer {
+        code: ABSENT,
+        total: NOTHING,
+    })
+}
+
+// A read of a cell, with some of c cells passed before it. Most reads pass on, and those need no rule.
+fn read_turn(ceiling: u32, operation: Operation, c: usize, passed: usize, cell: Cell) -> Turn
+    requires { ⌜ isKind (operation .kind) ≡ true ⌝ }
+    ensures { λ r. ⌜ r ≡ turnSeen ceiling c operation passed (sight (operation .key) (cellOf cell)) ⌝ }
+{
+    let sight = see(operation.key, cell);
+    match sight {
+        Sight::Own(total) => read_own(ceiling, operation, total),
+        Sight::Free => missing(ceiling, operation, Turn::Hold(Held::Vacant)),
+        Sight::Other => {
+            if is_last(c, passed) {
+                return missing(
+                    ceiling,
+                    operation,
+                    Turn::Finish(Answer {
+                        code: FULL,
+                        total: NOTHING,
+                    }),
+                );
+            }
+            Turn::Pass
         }
-        return Turn::Hold(0);
-    }
-    Turn::Finish(ABSENT)
-}
-
-// A read of a word, with some of c cells passed before it. Most reads pass on, and those need no rule.
-fn read_turn(operation: u64, c: usize, passed: usize, word: u32) -> Turn
-    requires { ⌜ isKind (kindBits operation) ≡ true ⌝ }
-    ensures { λ r. ⌜ r ≡ readTurn c operation passed word ⌝ }
-{
-    if word == 0 {
-        return missing(operation, word);
-    }
-    if is_own(operation, word) {
-        return own(operation, word);
-    }
-    if is_last(c, passed) {
-        return missing(operation, word);
-    }
-    Turn::Pass
-}
-
-// A read: the word stays as it is.
-pub fn read(operation: u64, c: usize, passed: usize, word: u32) -> Taken
-    ensures { λ r. ⌜ r ≡ readIf c operation (isKind (kindBits operation)) passed word ⌝ }
-{
-    if is_known(operation) {
-        return Taken {
-            word: word,
-            turn: read_turn(operation, c, passed, word),
-        };
-    }
-    Taken {
-        word: word,
-        turn: Turn::Refuse,
     }
 }
 
-// A swap that is won: on an empty cell the key and the amount are stored.
-fn won(operation: u64, held: u32, rule: Rule) -> Taken
-    requires { ⌜ ((c : ℕ) → rule ≡ ruleIf true c (decodeOperation operation) (totalBits held)) ⌝ }
-    ensures { λ r. ⌜ ((c w : ℕ) → r ≡ swapOf c operation true held w) ⌝ }
+// A step that stores nothing.
+fn kept(cell: Cell, turn: Turn) -> Left
+    ensures { λ r. ⌜ r ≡ record { stores = false; cell = cell; turn = turn } ⌝ }
 {
-    if held == 0 {
-        return Taken {
-            word: cell_word(operation_key(operation), operation_amount(operation)),
-            turn: Turn::Finish(INSERTED),
-        };
-    }
-    Taken {
-        word: rule.word,
-        turn: Turn::Finish(rule.answer),
+    Left {
+        stores: false,
+        cell: cell,
+        turn: turn,
     }
 }
 
-// A compare-and-swap: the cell is stored if it still equals the held word. It is the same in a table
-// of any size.
-pub fn compare_and_swap(operation: u64, held: u32, word: u32) -> Taken
-    ensures { λ r. ⌜ ((c : ℕ) → r ≡ swapIf c operation (isKind (kindBits operation)) held word) ⌝ }
+// A read: the cell stays as it is.
+pub fn read(ceiling: u32, operation: Operation, c: usize, passed: usize, cell: Cell) -> Left
+    ensures { λ r. ⌜ r ≡ stepOf ceiling c operation (reading passed) cell ⌝ }
 {
-    let rule = rule_of(operation, held);
+    if is_known(operation.kind) {
+        return kept(cell, read_turn(ceiling, operation, c, passed, cell));
+    }
+    kept(cell, Turn::Refuse)
+}
+
+// A swap that is won.
+fn stored(cell: Cell, answer: Answer) -> Left
+    ensures { λ r. ⌜ r ≡ record { stores = true; cell = cell; turn = Finish answer } ⌝ }
+{
+    Left {
+        stores: true,
+        cell: cell,
+        turn: Turn::Finish(answer),
+    }
+}
+
+// A swap that is lost: the same cell is read again.
+fn lost(cell: Cell) -> Left
+    ensures { λ r. ⌜ r ≡ record { stores = false; cell = cell; turn = Lose } ⌝ }
+{
+    kept(cell, Turn::Lose)
+}
+
+// Whether two totals are equal, and whether a cell still is a key with a total.
+fn is_same(a: Total, b: Total) -> bool
+    ensures { λ r. ⌜ r ≡ sameTotal a b ⌝ }
+{
+    if a.amount == b.amount {
+        return a.saturated == b.saturated;
+    }
+    false
+}
+
+fn is_still(key: u16, total: Total, cell: Cell) -> bool
+    ensures { λ r. ⌜ ((ceiling c : ℕ) → r ≡ sameCell (settingAt ceiling c) (cellOf cell) (live key total)) ⌝ }
+{
+    let sight = see(key, cell);
+    match sight {
+        Sight::Own(found) => is_same(found, total),
+        Sight::Free => false,
+        Sight::Other => false,
+    }
+}
+
+// The swap of one that holds the empty word: the key and the amount are stored in a cell that still
+// is empty.
+fn swap_empty(operation: Operation, cell: Cell) -> Left
+    ensures { λ r. ⌜ ((ceiling c p : ℕ) → r ≡ stepOf ceiling c operation (holding p vacant) cell) ⌝ }
+{
+    if is_known(operation.kind) {
+        if cell.key == 0 {
+            let amount = operation.amount;
+            return stored(
+                Cell {
+                    key: operation.key,
+                    total: amount,
+                },
+                Answer {
+                    code: INSERTED,
+                    total: NOTHING,
+                },
+            );
+        }
+        return lost(cell);
+    }
+    kept(cell, Turn::Refuse)
+}
+
+// The swap of one that holds its own key with a total: the new cell of its kind is stored.
+fn swap_own(ceiling: u32, operation: Operation, total: Total, cell: Cell) -> Left
+    ensures { λ r. ⌜ ((c p : ℕ) → r ≡ stepOf ceiling c operation (holding p (mine total)) cell) ⌝ }
+{
+    let rule = rule_of(ceiling, operation, total);
     if rule.known {
-        if word == held {
-            return won(operation, held, rule);
+        if is_still(operation.key, total, cell) {
+            let new = rule.cell;
+            let answer = rule.answer;
+            return stored(new, answer);
         }
-        return Taken {
-            word: word,
-            turn: Turn::Lose,
-        };
+        return lost(cell);
     }
-    Taken {
-        word: word,
-        turn: Turn::Refuse,
+    kept(cell, Turn::Refuse)
+}
+
+// A compare-and-swap: the new cell is stored if the cell still equals the held word. It is the same in
+// a table of any size, wherever the operation stands.
+pub fn compare_and_swap(ceiling: u32, operation: Operation, held: Held, cell: Cell) -> Left
+    ensures { λ r. ⌜ ((c p : ℕ) → r ≡ stepOf ceiling c operation (holding p (heldOf held)) cell) ⌝ }
+{
+    match held {
+        Held::Vacant => swap_empty(operation, cell),
+        Held::Mine(total) => swap_own(ceiling, operation, total, cell),
     }
 }

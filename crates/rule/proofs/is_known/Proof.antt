@@ -1,42 +1,35 @@
 -- `rule::is_known` meets its contract, arm by arm.
 -- Assumes nothing.
-use mathlib.Core.Path.{sym, ap, _∙_}
-use borrow.Author.Needs.{needs}
+use mathlib.Core.Path.{sym, ap}
 use Rattle.semantics.specs.Words.{isKind}
 use Rattle.rule.proofs.Rules.{no-kind}
 use Rattle.rule.proofs.is_known.Statement.{statement}
 use Rattle.rule.proofs.is_known.Tie as tie
 
-operation-kind-requires : tie.Need-operation-kind-requires
-operation-kind-requires c κs = search needs
-
 returns : tie.Need-returns
 unfolding isKind
-returns c = rw (← c .before .operation-kind .ensures, c .match .keys1)
+returns c = sym (ap isKind (c .match .keys1))
 
 returns-2 : tie.Need-returns-2
 unfolding isKind
-returns-2 c = rw (← c .before .operation-kind .ensures, c .match .keys2)
+returns-2 c = sym (ap isKind (c .match .keys2))
 
 returns-3 : tie.Need-returns-3
 unfolding isKind
-returns-3 c = rw (← c .before .operation-kind .ensures, c .match .keys3)
+returns-3 c = sym (ap isKind (c .match .keys3))
 
 returns-4 : tie.Need-returns-4
 unfolding isKind
-returns-4 c = rw (← c .before .operation-kind .ensures, c .match .keys4)
+returns-4 c = sym (ap isKind (c .match .keys4))
 
 returns-5 : tie.Need-returns-5
 unfolding isKind
-returns-5 c = rw (← c .before .operation-kind .ensures, c .match .keys5)
+returns-5 c = sym (ap isKind (c .match .keys5))
 
 returns-6 : tie.Need-returns-6
 returns-6 c =
-    let kind = c .before .operation-kind in
     let r = c .match .rest in
-    sym (ap isKind (sym (kind .ensures)) ∙ no-kind (kind .result) (r .0 .0 .0 .0 .1) (r .0 .0 .0 .1) (r .0 .0 .1) (r .0 .1) (r .1))
+    sym (no-kind _ (r .0 .0 .0 .0 .1) (r .0 .0 .0 .1) (r .0 .0 .1) (r .0 .1) (r .1))
 
 pub is-known-spec : {M : Type 1} → statement M
-is-known-spec =
-    tie.close
-    (tie.spec operation-kind-requires returns returns-2 returns-3 returns-4 returns-5 returns-6)
+is-known-spec = tie.close (tie.spec returns returns-2 returns-3 returns-4 returns-5 returns-6)

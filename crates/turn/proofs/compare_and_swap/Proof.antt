@@ -1,35 +1,43 @@
--- `turn::compare_and_swap` meets its contract.
+-- `turn::compare_and_swap` meets its contract, by what is held.
 -- Assumes nothing.
+use mathlib.Core.Path.{sym, ap, _∙_}
+use Prim.Native.Nat.{ℕ}
 use borrow.Author.Needs.{needs}
-use borrow.Author.Tests.{eq-eqb, ne-eqb}
-use Rattle.rule.proofs.Rules.{rule-if, known-is}
-use Rattle.turn.specs.Turn.{swapIf}
-use Rattle.turn.proofs.Turns.{lost}
+use Rattle.semantics.specs.Step.{holding}
+use Rattle.turn.specs.declared.Held.{Held}
+use Rattle.turn.specs.declared.Left.{Left}
+use Rattle.turn.specs.Turn.{heldOf, stepOf}
 use Rattle.turn.proofs.compare_and_swap.Statement.{statement}
 use Rattle.turn.proofs.compare_and_swap.Tie as tie
 
-rule-of-requires : tie.Need-rule-of-requires
-rule-of-requires c κs = search needs
+-- what the swap of a held word leaves
+abbrev swap-of : tie.Start → ℕ → ℕ → Held → Left
+swap-of c s p h = stepOf (c .args .ceiling) s (c .args .operation) (holding p (heldOf h)) (c .args .cell)
 
-won-requires : tie.Need-won-requires
-won-requires c κs = λ s. rule-if s _ _ (c .before .before .rule-of .ensures s) (known-is s _ _ (c .before .before .rule-of .ensures s) (c .before .if1 .taken))
+abbrev own-arm : tie.After-swap-own → tie.After-held
+own-arm c = c .before .before
+
+enum-told : tie.Need-enum-told
+enum-told c = search needs
+
+swap-empty-requires : tie.Need-swap-empty-requires
+swap-empty-requires c κs = search needs
+
+enum-known-held : tie.Need-enum-known-held
+enum-known-held c = search needs
+
+swap-own-requires : tie.Need-swap-own-requires
+swap-own-requires c κs = search needs
 
 returns : tie.Need-returns
-unfolding swapIf
-returns c = λ s.
-    let won = c .before in
-    let a = won .before .before .before .args in
-    rw (known-is 0 _ _ (won .before .before .rule-of .ensures 0) (won .before .if1 .taken), eq-eqb (a .word) (a .held) (won .if2 .taken)) (c .won .ensures s (a .word))
+unfolding heldOf
+returns c = λ s p. c .swap-empty .ensures _ s p ∙ ap (swap-of (c .before .before .before) s p) (sym (c .before .enum-told .given .1))
 
 returns-2 : tie.Need-returns-2
-unfolding swapIf
-returns-2 c = λ s.
-    let a = c .before .before .before .args in
-    rw (known-is 0 _ _ (c .before .before .rule-of .ensures 0) (c .before .if1 .taken), ne-eqb (a .word) (a .held) (c .if2 .left)) (lost s (a .operation) (a .held) (a .word))
-
-returns-3 : tie.Need-returns-3
-unfolding swapIf
-returns-3 c = λ s. rw (known-is 0 _ _ (c .before .rule-of .ensures 0) (c .if1 .left))
+unfolding heldOf
+returns-2 c = λ s p. c .swap-own .ensures s p ∙ ap (swap-of (own-arm c .before .before) s p) (sym (own-arm c .held .given .1))
 
 pub compare-and-swap-spec : {M : Type 1} → statement M
-compare-and-swap-spec = tie.close (tie.spec rule-of-requires won-requires returns returns-2 returns-3)
+compare-and-swap-spec =
+    tie.close
+    (tie.spec enum-told swap-empty-requires enum-known-held swap-own-requires returns returns-2)

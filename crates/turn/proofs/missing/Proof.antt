@@ -1,29 +1,26 @@
 -- `turn::missing` meets its contract.
 -- Assumes nothing.
+use mathlib.Core.Path.{_≡_}
+use mathlib.Core.Bool.{Bool}
 use borrow.Author.Needs.{needs}
-use borrow.Author.Tests.{eq-eqb, ne-eqb}
-use Rattle.rule.proofs.Rules.{rule-if}
+use Rattle.semantics.specs.Step.{makes}
+use Rattle.semantics.specs.Words.{kindOf}
 use Rattle.turn.proofs.Turns.{makes-is}
 use Rattle.turn.proofs.missing.Statement.{statement}
 use Rattle.turn.proofs.missing.Tie as tie
+
+-- what the rule says
+makes-key : (c : tie.After-rule-of) {b : Bool} → c .rule-of .result .makes ≡ b → makes (kindOf (c .before .args .operation .kind)) ≡ b
+makes-key c e = makes-is _ 0 _ (c .before .pre) _ (c .rule-of .ensures 0) e
 
 rule-of-requires : tie.Need-rule-of-requires
 rule-of-requires c κs = search needs
 
 returns : tie.Need-returns
-returns c =
-    let rule = c .before .before in
-    rw (makes-is 0 _ _ (rule-if 0 _ _ (rule .rule-of .ensures 0) (rule .before .pre)) (c .before .if1 .taken), ne-eqb _ 0 (c .if2 .taken))
+returns c = rw (makes-key (c .before) (c .if1 .taken))
 
 returns-2 : tie.Need-returns-2
-returns-2 c =
-    let rule = c .before .before in
-    rw (makes-is 0 _ _ (rule-if 0 _ _ (rule .rule-of .ensures 0) (rule .before .pre)) (c .before .if1 .taken), eq-eqb _ 0 (c .if2 .left))
-
-returns-3 : tie.Need-returns-3
-returns-3 c =
-    let rule = c .before in
-    rw (makes-is 0 _ _ (rule-if 0 _ _ (rule .rule-of .ensures 0) (rule .before .pre)) (c .if1 .left))
+returns-2 c = rw (makes-key (c .before) (c .if1 .left))
 
 pub missing-spec : {M : Type 1} → statement M
-missing-spec = tie.close (tie.spec rule-of-requires returns returns-2 returns-3)
+missing-spec = tie.close (tie.spec rule-of-requires returns returns-2)

@@ -2,7 +2,7 @@
 -- Assumes nothing.
 use mathlib.Core.Path.{sym, _∙_}
 use borrow.Author.Needs.{needs}
-use Rattle.turn.specs.Turn.{readIf}
+use Rattle.turn.proofs.Turns.{step-read, step-refused}
 use Rattle.turn.proofs.read.Statement.{statement}
 use Rattle.turn.proofs.read.Tie as tie
 
@@ -12,15 +12,22 @@ is-known-requires c κs = search needs
 read-turn-requires : tie.Need-read-turn-requires
 read-turn-requires c κs = sym (c .before .is-known .ensures) ∙ c .if1 .taken
 
+kept-requires : tie.Need-kept-requires
+kept-requires c κs = search needs
+
 returns : tie.Need-returns
-unfolding readIf
 returns c =
-    let known = c .before .before in
-    rw (← known .is-known .ensures, c .before .if1 .taken) (λ i. record { word = known .before .args .word; turn = c .read-turn .ensures i })
+    let turn = c .before in
+    let tested = turn .before in
+    c .kept .ensures ∙ step-read _ _ _ (sym (tested .before .is-known .ensures) ∙ tested .if1 .taken) _ _ (turn .read-turn .ensures)
+
+kept-requires-2 : tie.Need-kept-requires-2
+kept-requires-2 c κs = search needs
 
 returns-2 : tie.Need-returns-2
-unfolding readIf
-returns-2 c = rw (← c .before .is-known .ensures, c .if1 .left)
+returns-2 c =
+    let tested = c .before in
+    c .kept2 .ensures ∙ step-refused _ _ _ (sym (tested .before .is-known .ensures) ∙ tested .if1 .left) _ _
 
 pub read-spec : {M : Type 1} → statement M
-read-spec = tie.close (tie.spec is-known-requires read-turn-requires returns returns-2)
+read-spec = tie.close (tie.spec is-known-requires read-turn-requires kept-requires returns kept-requires-2 returns-2)

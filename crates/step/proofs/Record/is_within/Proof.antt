@@ -1,0 +1,24 @@
+-- `step::Record::is_within` meets its contract.
+-- Assumes nothing.
+use mathlib.Core.Path.{sym, ap}
+use mathlib.Core.Bool.{Bool, _&&_}
+use lib.Dec.{ltb}
+use borrow.Author.Tests.{lt-ltb, le-ltb}
+use Rattle.step.specs.Record.{isWithin}
+use Rattle.step.proofs.Record.is_within.Statement.{statement}
+use Rattle.step.proofs.Record.is_within.Tie as tie
+
+-- the second test, by the first
+abbrev both-tests : tie.Start → Bool → Bool
+both-tests c first = first && ltb (c .args .self .passed) (c .args .c)
+
+returns : tie.Need-returns
+unfolding isWithin
+returns c = let tested = c .before in sym (ap (both-tests (tested .before .before)) (lt-ltb _ _ (tested .if1 .taken)))
+
+returns-2 : tie.Need-returns-2
+unfolding isWithin
+returns-2 c = sym (ap (both-tests (c .before .before)) (le-ltb _ _ (c .if1 .left)))
+
+pub is-within-spec : {M : Type 1} → statement M
+is-within-spec = tie.close (tie.spec returns returns-2)
