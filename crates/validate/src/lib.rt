@@ -1,9 +1,11 @@
 // The run's refusals 1 to 8 (document 01, "Where a call is turned away"), judged in table order: those
-// of the slices here, then those of the words and those of the whole table.
+// of the slices here, then those of the words and those of the whole table. A narrow table is lent to
+// them with an empty slice of wide cells.
 use semantics::MOST_ENTRIES;
 use semantics::MOST_OPERATIONS;
 use semantics::Refusal;
 ghost use mathlib.Core.Path.{_≡_};
+ghost use Rattle.semantics.specs.Narrow.{narrowWidth};
 ghost use Rattle.semantics.specs.Refusals.{callOf, firstMet, slicesConditions, runRefusal};
 
 // The conditions on the slices, by number alone since their place is 0: 1, the size of the table; 2,
@@ -44,7 +46,7 @@ pub fn validate(
     answers: usize,
     log: usize,
 ) -> Refusal
-    ensures { λ r. ⌜ r ≡ runRefusal (callOf (now (cells .entry)) (now (operations .entry)) (now (schedule .entry)) answers log) ⌝ }
+    ensures { λ r. ⌜ r ≡ runRefusal narrowWidth (callOf (now (cells .entry)) (now (operations .entry)) (now (schedule .entry)) answers log) ⌝ }
 {
     let slices = slices_number(cells, operations, schedule, answers, log);
     if slices != 0 {
@@ -53,9 +55,10 @@ pub fn validate(
             place: 0,
         };
     }
-    let words = validate_words::words_refusal(cells, operations, schedule);
+    let none = [0u64; 0];
+    let words = validate_words::words_refusal(cells, &none, false, operations, schedule);
     if words.number != 0 {
         return words;
     }
-    validate_table::table_refusal(cells)
+    validate_table::table_refusal(cells, &none)
 }

@@ -1,14 +1,41 @@
-// The run's refusals 4, 5 and 6 (document 01, "Where a call is turned away", "run, words"). Each is a
-// search along its slice: it gives the first index that meets the condition, which is the place, or
-// the length of the slice where none does.
+// The run's refusals 4, 5 and 6 (document 01, "Where a call is turned away", "run, words"; document 02,
+// "A4", has what the wide width refuses with 4 and 5). Each is a search along the cells, the operations
+// or the schedule: it gives the first index that meets the condition, which is the place, or their number
+// where none does.
 use semantics::Refusal;
+use semantics::Total;
 ghost use mathlib.Core.Path.{_≡_};
-ghost use mathlib.Core.Bool.{not, _||_, _&&_};
+ghost use mathlib.Core.Bool.{true, not, _||_, _&&_};
+ghost use Prim.Native.Nat.{_+_, _<_};
 ghost use lib.Dec.{eqb, leb};
 ghost use lib.ListN.{length, getD};
 ghost use Rattle.semantics.specs.Basics.{firstBelow};
-ghost use Rattle.semantics.specs.Words.{cellAllowed, takesAmount, isKind, operationAllowed};
-ghost use Rattle.semantics.specs.Refusals.{callOf, firstMet, wordsConditions};
+ghost use Rattle.semantics.specs.Words.{takesAmount, isKind, isLiveKey};
+ghost use Rattle.semantics.specs.Narrow.{cellAllowed, operationAllowed};
+ghost use Rattle.semantics.specs.Wide.{isWideTotal, isNothing, wideCellAllowed, wideOperationAllowed};
+ghost use Rattle.semantics.specs.Lent.{cellsAllowed, operationAllowedIn, lentWords};
+ghost use Rattle.semantics.specs.Refusals.{firstMet};
+
+// A wide total: any with the flag, and one without it that the thirty-two bits do not hold at.
+fn is_wide_total(t: Total) -> bool
+    ensures { λ r. ⌜ r ≡ isWideTotal t ⌝ }
+{
+    let amount = t.amount;
+    if t.saturated {
+        return true;
+    }
+    amount < 4294967295
+}
+
+// Neither an amount nor a flag.
+fn is_nothing(t: Total) -> bool
+    ensures { λ r. ⌜ r ≡ isNothing t ⌝ }
+{
+    if t.saturated {
+        return false;
+    }
+    t.amount == 0
+}
 
 // 4: whether a cell may start with word w: a live key with any total, the empty word, or a tombstone.
 fn cell_allowed(w: u32) -> bool
@@ -23,12 +50,43 @@ fn cell_allowed(w: u32) -> bool
     w == word::TOMBSTONE
 }
 
-fn first_bad_cell(cells: &[u32]) -> usize
-    ensures { λ r. ⌜ r ≡ firstBelow (length (now (cells .entry))) (λ i. not (cellAllowed (getD (now (cells .entry)) i 0))) ⌝ }
+fn wide_cell_allowed(w: u64) -> bool
+    ensures { λ r. ⌜ r ≡ wideCellAllowed w ⌝ }
 {
+    if wide::stray_bits(w) == 0 {
+        let total = wide::wide_total(w);
+        if is_wide_total(total) {
+            if word::is_live_key(wide::wide_key(w)) {
+                return true;
+            }
+            return is_nothing(total);
+        }
+    }
+    false
+}
+
+// A table is lent as two slices, of which one is empty. The first test is the same for every cell, so that
+// the compiler takes it out of a search: no cell of a narrow table is tested for its width.
+fn cell_allowed_at(narrow: &[u32], wide: &[u64], i: usize) -> bool
+    requires { ⌜ i < length (now narrow) + length (now wide) ⌝ }
+    ensures { λ r. ⌜ r ≡ getD (cellsAllowed (now (narrow .entry)) (now (wide .entry))) i true ⌝ }
+{
+    if wide.len() == 0 {
+        return cell_allowed(narrow[i]);
+    }
+    if i < narrow.len() {
+        return cell_allowed(narrow[i]);
+    }
+    wide_cell_allowed(wide[i - narrow.len()])
+}
+
+fn first_bad_cell(narrow: &[u32], wide: &[u64]) -> usize
+    ensures { λ r. ⌜ r ≡ (let allowed = cellsAllowed (now (narrow .entry)) (now (wide .entry)) in firstBelow (length allowed) (λ i. not (getD allowed i true))) ⌝ }
+{
+    let c = narrow.len() + wide.len();
     let mut i = 0;
-    while i < cells.len() {
-        if cell_allowed(cells[i]) {
+    while i < c {
+        if cell_allowed_at(narrow, wide, i) {
             i += 1;
         } else {
             return i;
@@ -37,38 +95,75 @@ fn first_bad_cell(cells: &[u32]) -> usize
     i
 }
 
-// 5: whether an operation may have this kind with this amount. Find and remove take no amount, and
-// any number but those of the five kinds is refused.
-fn kind_allowed(kind: u8, amount: u16) -> bool
-    ensures { λ r. ⌜ r ≡ (isKind kind && (takesAmount kind || eqb amount 0)) ⌝ }
+// 5: whether an operation may have this kind, with no amount or with some. Find and remove take none,
+// and any number but those of the five kinds is refused.
+fn kind_allowed(kind: u8, nothing: bool) -> bool
+    ensures { λ r. ⌜ r ≡ (isKind kind && (takesAmount kind || nothing)) ⌝ }
 {
     match kind {
-        1 => amount == 0,
+        1 => nothing,
         2 => true,
         3 => true,
         4 => true,
-        5 => amount == 0,
+        5 => nothing,
         _ => false,
     }
 }
 
-fn operation_allowed(w: u64) -> bool
-    ensures { λ r. ⌜ r ≡ operationAllowed w ⌝ }
+// The fields of an operation: the bits above its kind, its kind, its key, and whether it has no amount.
+fn fields_allowed(above: u32, kind: u8, key: u16, nothing: bool) -> bool
+    ensures { λ r. ⌜ r ≡ (eqb above 0 && isKind kind && isLiveKey key && (takesAmount kind || nothing)) ⌝ }
 {
-    if operation::above_kind(w) == 0 {
-        if word::is_live_key(operation::operation_key(w)) {
-            return kind_allowed(operation::operation_kind(w), operation::operation_amount(w));
+    if above == 0 {
+        if word::is_live_key(key) {
+            return kind_allowed(kind, nothing);
         }
     }
     false
 }
 
-fn first_bad_operation(operations: &[u64]) -> usize
-    ensures { λ r. ⌜ r ≡ firstBelow (length (now (operations .entry))) (λ i. not (operationAllowed (getD (now (operations .entry)) i 0))) ⌝ }
+fn narrow_operation_allowed(w: u64) -> bool
+    ensures { λ r. ⌜ r ≡ operationAllowed w ⌝ }
+{
+    let nothing = operation::operation_amount(w) == 0;
+    fields_allowed(
+        operation::above_kind(w),
+        operation::operation_kind(w),
+        operation::operation_key(w),
+        nothing,
+    )
+}
+
+fn wide_operation_allowed(w: u64) -> bool
+    ensures { λ r. ⌜ r ≡ wideOperationAllowed w ⌝ }
+{
+    let amount = wide::wide_total(w);
+    if is_wide_total(amount) {
+        return fields_allowed(
+            wide::wide_above_kind(w) as u32,
+            wide::wide_kind(w),
+            wide::wide_operation_key(w),
+            is_nothing(amount),
+        );
+    }
+    false
+}
+
+fn operation_allowed(flagged: bool, w: u64) -> bool
+    ensures { λ r. ⌜ r ≡ operationAllowedIn flagged w ⌝ }
+{
+    if flagged {
+        return wide_operation_allowed(w);
+    }
+    narrow_operation_allowed(w)
+}
+
+fn first_bad_operation(flagged: bool, operations: &[u64]) -> usize
+    ensures { λ r. ⌜ r ≡ firstBelow (length (now (operations .entry))) (λ i. not (operationAllowedIn flagged (getD (now (operations .entry)) i 0))) ⌝ }
 {
     let mut i = 0;
     while i < operations.len() {
-        if operation_allowed(operations[i]) {
+        if operation_allowed(flagged, operations[i]) {
             i += 1;
         } else {
             return i;
@@ -91,18 +186,25 @@ fn first_bad_entry(schedule: &[u8], operations: usize) -> usize
     i
 }
 
-// The conditions on the words: 4, 5 and 6. They do not depend on the slices for answers and log.
-pub fn words_refusal(cells: &[u32], operations: &[u64], schedule: &[u8]) -> Refusal
-    ensures { λ r. ⌜ r ≡ firstMet (wordsConditions (callOf (now (cells .entry)) (now (operations .entry)) (now (schedule .entry)) 0 0)) ⌝ }
+// The conditions on the words: 4, 5 and 6. Operations are flagged where they are in the wide layout, whose
+// amounts have a flag.
+pub fn words_refusal(
+    narrow: &[u32],
+    wide: &[u64],
+    flagged: bool,
+    operations: &[u64],
+    schedule: &[u8],
+) -> Refusal
+    ensures { λ r. ⌜ r ≡ firstMet (lentWords (now (narrow .entry)) (now (wide .entry)) flagged (now (operations .entry)) (now (schedule .entry))) ⌝ }
 {
-    let cell = first_bad_cell(cells);
-    if cell < cells.len() {
+    let cell = first_bad_cell(narrow, wide);
+    if cell < narrow.len() + wide.len() {
         return Refusal {
             number: 4,
             place: cell,
         };
     }
-    let operation = first_bad_operation(operations);
+    let operation = first_bad_operation(flagged, operations);
     if operation < operations.len() {
         return Refusal {
             number: 5,

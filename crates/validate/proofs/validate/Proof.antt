@@ -11,28 +11,40 @@ called c =
     let a = c .before .before .before .before .args in
     callOf (a .cells .now) (a .operations .now) (a .schedule .now) (a .answers) (a .log)
 
+-- the slices, as the parts after them see them
+abbrev slices : tie.After-words-refusal → tie.Else1
+slices c = c .before .before
+
 slices-number-requires : tie.Need-slices-number-requires
 slices-number-requires c κs = search needs
 
 returns : tie.Need-returns
 returns c = by-slices (called (c .before)) (c .before .slices-number .ensures) (c .if1 .taken)
 
+slice-aggregate-words-refusal : tie.Need-slice-aggregate-words-refusal
+slice-aggregate-words-refusal c = search needs
+
 words-refusal-requires : tie.Need-words-refusal-requires
 words-refusal-requires c κs = search needs
 
 returns-2 : tie.Need-returns-2
 returns-2 c =
-    let slices = c .before .before .before in
-    by-words (called (slices .before)) (slices .before .slices-number .ensures) (slices .if1 .left) (c .before .before .words-refusal .ensures) (c .if2 .taken)
+    let words = c .before .before in
+    let some = slices words in
+    by-words (called (some .before)) (some .before .slices-number .ensures) (some .if1 .left) (words .words-refusal .ensures) (c .if2 .taken)
+
+slice-aggregate-table-refusal : tie.Need-slice-aggregate-table-refusal
+slice-aggregate-table-refusal c = search needs
 
 table-refusal-requires : tie.Need-table-refusal-requires
 table-refusal-requires c κs = search needs
 
 returns-3 : tie.Need-returns-3
 returns-3 c =
-    let words = c .before in
-    let slices = words .before .before .before in
-    by-table (called (slices .before)) (slices .before .slices-number .ensures) (slices .if1 .left) (words .before .before .words-refusal .ensures) (words .if2 .left)
+    let none = c .before .before in
+    let words = none .before .before in
+    let some = slices words in
+    by-table (called (some .before)) (some .before .slices-number .ensures) (some .if1 .left) (words .words-refusal .ensures) (none .if2 .left)
     (c .table-refusal .ensures)
 
 pub validate-spec : {M : Type 1} → statement M
@@ -41,7 +53,9 @@ validate-spec =
     (tie.spec
     slices-number-requires
     returns
+    slice-aggregate-words-refusal
     words-refusal-requires
     returns-2
+    slice-aggregate-table-refusal
     table-refusal-requires
     returns-3)

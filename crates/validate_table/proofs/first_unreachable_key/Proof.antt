@@ -1,60 +1,93 @@
 -- `validate_table::first_unreachable_key` meets its contract: a search, with the filled cells before each cell.
 -- Assumes nothing.
 use mathlib.Core.Logic.{⊎-elim}
-use Prim.Native.Nat.{_-_}
+use mathlib.Core.Path.{_≡_, ap, _∙_}
+use Prim.Native.Nat.{ℕ, _+_, _-_}
+use mathlib.Core.Bool.{true}
+use mathlib.Core.List.{List}
 use native.Mathlib.Omega.{arith}
 use lib.ListN.{length}
+use Rattle.semantics.specs.Words.{sizeAllowed}
+use Rattle.semantics.specs.Lent.{tableKeys}
 use Rattle.semantics.proofs.Booleans.{true-T}
-use Rattle.semantics.proofs.Narrow.{allowed-bounds}
+use Rattle.semantics.proofs.Lent.{keys-size}
+use Rattle.semantics.proofs.Sizes.{allowed-bounds}
 use Rattle.semantics.proofs.Searches.{search-ends}
-use Rattle.validate_table.proofs.Filled.{Since, filled-within, all-filled, since-start, filled-found, filled-none, filled-more}
+use Rattle.validate_table.proofs.Filled.{Since, filled-within, all-filled, since-start, since-found, since-none, since-more}
 use borrow.Author.Needs.{needs}
 use Rattle.validate_table.proofs.first_unreachable_key.Statement.{statement}
 use Rattle.validate_table.proofs.first_unreachable_key.Tie as tie
 
 abbrev Inv-loop : tie.InvT-loop
-Inv-loop cells c filled start₀ i₀ start i = Since cells i start
+Inv-loop narrow wide c filled start₀ i₀ start i = Since (tableKeys narrow wide) c i start
 
 abbrev μ-loop : tie.MeasureT-loop
-μ-loop cells c filled start₀ i₀ start i = length cells - i
+μ-loop narrow wide c filled start₀ i₀ start i = c - i
+
+-- the keys of the cells, how many they are, and that so many are allowed
+abbrev keys : tie.Start Inv-loop μ-loop → List ℕ
+keys c = tableKeys (c .args .narrow .now) (c .args .wide .now)
+
+sized : (c : tie.Start Inv-loop μ-loop) → length (c .args .narrow .now) + length (c .args .wide .now) ≡ length (keys c)
+sized c = keys-size (c .args .narrow .now) (c .args .wide .now)
+
+allowed : (c : tie.Start Inv-loop μ-loop) → sizeAllowed (length (c .args .narrow .now) + length (c .args .wide .now)) ≡ true
+allowed c = ap sizeAllowed (sized c) ∙ c .pre
+
+-- the start of the function, as the count before the loop sees it, and the turn of a cell
+abbrev start : tie.After-filled-at-end Inv-loop μ-loop → tie.Start Inv-loop μ-loop
+start c = c .before .before .before
+
+abbrev began : tie.In-loop Inv-loop μ-loop → tie.Start Inv-loop μ-loop
+began c = start (c .before .before .before)
+
+abbrev turn : tie.After-key-at Inv-loop μ-loop → tie.In-loop Inv-loop μ-loop
+turn c = c .before
+
+add-c : tie.Need-add-c Inv-loop μ-loop
+add-c c = search needs
 
 filled-at-end-requires : tie.Need-filled-at-end-requires Inv-loop μ-loop
 filled-at-end-requires c κs = search needs
 
 returns : tie.Need-returns Inv-loop μ-loop
-returns c = all-filled (c .before .before .before .args .cells .now) _ (c .before .filled-at-end .ensures) (c .if1 .taken)
+returns c =
+    let s = start (c .before) in
+    all-filled (keys s) _ _ (sized s) (c .before .filled-at-end .ensures) (c .if1 .taken)
 
 sub-start : tie.Need-sub-start Inv-loop μ-loop
-sub-start c = filled-within (c .before .before .before .args .cells .now) _ (c .before .filled-at-end .ensures)
+sub-start c =
+    let s = start (c .before) in
+    filled-within (keys s) _ _ (sized s) (c .before .filled-at-end .ensures)
 
 loop-holds : tie.Need-loop-holds Inv-loop μ-loop
-loop-holds c = since-start _ _ (c .before .filled-at-end .ensures)
+loop-holds c =
+    let s = start (c .before) in
+    since-start (keys s) _ _ (sized s) (c .before .filled-at-end .ensures)
 
-mul-w : tie.Need-mul-w Inv-loop μ-loop
-mul-w c = search needs
-
-shared-slice-read-w : tie.Need-shared-slice-read-w Inv-loop μ-loop
-shared-slice-read-w c = search needs
+key-at-requires : tie.Need-key-at-requires Inv-loop μ-loop
+key-at-requires c κs = search needs
 
 add-start : tie.Need-add-start Inv-loop μ-loop
 add-start c =
-    let turn = c .before .before in
-    record { fits = omega (arith, turn .loop-test .taken, allowed-bounds _ (true-T _ (turn .before .before .before .before .before .pre))) }
+    let t = turn (c .before) in
+    record { fits = omega (arith, t .loop-test .taken, allowed-bounds _ (true-T _ (allowed (began t)))) }
 
 add-start-2 : tie.Need-add-start-2 Inv-loop μ-loop
 add-start-2 c =
-    let turn = c .before .before in
-    record { fits = omega (arith, turn .loop-test .taken, allowed-bounds _ (true-T _ (turn .before .before .before .before .before .pre))) }
+    let t = turn (c .before) in
+    record { fits = omega (arith, t .loop-test .taken, allowed-bounds _ (true-T _ (allowed (began t)))) }
 
 is-cut-off-requires : tie.Need-is-cut-off-requires Inv-loop μ-loop
 is-cut-off-requires c κs =
-    let turn = c .before .before in
-    (turn .before .before .before .before .before .pre, turn .loop-test .taken, turn .before .loop .inv .0)
+    let t = turn (c .before) in
+    (allowed (began t), t .loop-test .taken, t .before .loop .inv .low)
 
 returns-2 : tie.Need-returns-2 Inv-loop μ-loop
 returns-2 c =
-    let turn = c .before .before .before .before in
-    filled-found (turn .before .loop .inv .1) (turn .loop-test .taken) (turn .before .before .before .before .before .pre) (c .before .is-cut-off .ensures) (c .if3 .taken)
+    let key = c .before .before .before in
+    let t = turn key in
+    since-found (t .before .loop .inv) (t .loop-test .taken) (key .key-at .ensures) (allowed (began t)) (c .before .is-cut-off .ensures) (c .if3 .taken)
 
 add-i : tie.Need-add-i Inv-loop μ-loop
 add-i c = search needs
@@ -64,16 +97,19 @@ loop-less c = search needs
 
 loop-again : tie.Need-loop-again Inv-loop μ-loop
 loop-again c =
-    let turn = c .before .before in
-    let at = turn .before in
-    let here = turn .loop-test .taken in
+    let key = c .before in
+    let t = turn key in
+    let inv = t .before .loop .inv in
+    let here = t .loop-test .taken in
     ⊎-elim
-    (λ w. (omega (arith, w .1), filled-none (at .loop .inv .1) here (w .0 .taken) _ (omega (arith, w .1))))
-    (λ w. (omega (arith, w .3, at .loop .inv .0), filled-more (at .loop .inv .1) here (at .before .before .before .before .pre) (w .1 .ensures) (w .2 .left) (w .0 .left) _ (omega (arith, w .3, at .loop .inv .0))))
+    (λ w. since-none inv here (key .key-at .ensures) (w .0 .taken) (c .if2 .start) (w .1))
+    (λ w. since-more inv here (key .key-at .ensures) (allowed (began t)) (w .1 .ensures) (w .2 .left) (w .0 .left) (c .if2 .start) (w .3))
     (c .if2 .came)
 
 returns-3 : tie.Need-returns-3 Inv-loop μ-loop
-returns-3 c = search-ends (c .before .loop .inv .1 .search) (c .loop-test .left)
+returns-3 c =
+    let inv = c .before .loop .inv in
+    search-ends (inv .filled .search) (omega (arith, inv .size, c .loop-test .left))
 
 pub first-unreachable-key-spec : {M : Type 1} → statement M
 first-unreachable-key-spec =
@@ -81,12 +117,12 @@ first-unreachable-key-spec =
     (tie.spec
     Inv-loop
     μ-loop
+    add-c
     filled-at-end-requires
     returns
     sub-start
     loop-holds
-    mul-w
-    shared-slice-read-w
+    key-at-requires
     add-start
     add-start-2
     is-cut-off-requires

@@ -1,37 +1,43 @@
 -- `validate_table::is_cut_off` meets its contract: the size is allowed, so the home is below c.
 -- Assumes nothing.
-use mathlib.Core.Path.{_≡_, sym, ap, _∙_}
-use Prim.Native.Nat.{_<_}
+use mathlib.Core.Path.{_≡_, sym, _∙_}
+use Prim.Native.Nat.{_+_, _-_, _%_, _<_}
+use mathlib.Core.Bool.{and-true, and-false}
 use native.Mathlib.Omega.{arith}
-use Rattle.semantics.specs.Words.{isLiveKey, keyOf, homeIn}
+use lib.Dec.{ltb}
+use borrow.Author.Tests.{lt-ltb, le-ltb}
+use Rattle.semantics.specs.Words.{homeIn}
 use Rattle.semantics.proofs.Booleans.{true-T}
-use Rattle.semantics.proofs.Narrow.{allowed-bounds, allowed-lawful}
+use Rattle.semantics.proofs.Sizes.{allowed-bounds, home-inside}
 use Rattle.validate_table.proofs.Filled.{before-ahead, before-around}
 use borrow.Author.Needs.{needs}
 use Rattle.validate_table.proofs.is_cut_off.Statement.{statement}
 use Rattle.validate_table.proofs.is_cut_off.Tie as tie
 
-live : (c : tie.After-is-live-key) → isLiveKey (keyOf (c .before .before .args .w)) ≡ c .is-live-key .result
-live c = ap isLiveKey (sym (c .before .cell-key .ensures)) ∙ sym (c .is-live-key .ensures)
+homed : (c : tie.After-home) → c .home .result ≡ homeIn (c .before .args .c) (c .before .args .key)
+homed c = c .home .ensures .1 (c .before .pre .0)
 
-homed : (c : tie.After-home) → let a = c .before .before .before .before .args in c .home .result ≡ homeIn (a .c) (keyOf (a .w))
-homed c =
-    let start = c .before .before .before .before in
-    c .home .ensures .1 (start .pre .0) ∙ ap (homeIn (start .args .c)) (c .before .before .before .cell-key .ensures)
+below : (c : tie.After-home) → c .home .result < c .before .args .c
+below c = omega (arith, homed c, home-inside _ (true-T _ (c .before .pre .0)) (c .before .args .key))
 
-below : (c : tie.After-home) → c .home .result < c .before .before .before .before .args .c
-below c =
-    let start = c .before .before .before .before in
-    omega (arith, homed c, allowed-lawful _ (true-T _ (start .pre .0)) .home-below (keyOf (start .args .w)))
+-- what the contract asks, by the test that each side of the end makes
+ahead : (c : tie.Then1)
+    → let a = c .before .before .args in
+    ltb (a .i + a .c - a .start) ((a .i + a .c - homeIn (a .c) (a .key)) % a .c) ≡ ltb (c .before .home .result + a .c) (a .start)
+ahead c =
+    let s = c .before .before in
+    rw (← homed (c .before)) (sym (before-ahead (s .args .c) (c .before .home .result) (s .args .i) (s .args .start) (c .if1 .taken) (s .pre .1) (s .pre .2)))
 
-cell-key-requires : tie.Need-cell-key-requires
-cell-key-requires c κs = search needs
-
-is-live-key-requires : tie.Need-is-live-key-requires
-is-live-key-requires c κs = search needs
+around : (c : tie.Else1)
+    → let a = c .before .before .args in
+    ltb (a .i + a .c - a .start) ((a .i + a .c - homeIn (a .c) (a .key)) % a .c) ≡ ltb (c .before .home .result) (a .start)
+around c =
+    let s = c .before .before in
+    rw (← homed (c .before))
+    (sym (before-around (s .args .c) (c .before .home .result) (s .args .i) (s .args .start) (omega (arith, c .if1 .left)) (below (c .before)) (s .pre .2)))
 
 cast-home : tie.Need-cast-home
-cast-home c = omega (arith, allowed-bounds _ (true-T _ (c .before .before .before .pre .0)))
+cast-home c = omega (arith, allowed-bounds _ (true-T _ (c .pre .0)))
 
 home-requires : tie.Need-home-requires
 home-requires c κs = search needs
@@ -39,36 +45,38 @@ home-requires c κs = search needs
 cast-home-2 : tie.Need-cast-home-2
 cast-home-2 c = search needs
 
-add-result : tie.Need-add-result
-add-result c = record { fits = omega (arith, below (c .before), allowed-bounds _ (true-T _ (c .before .before .before .before .before .pre .0))) }
+add-if2 : tie.Need-add-if2
+add-if2 c = record { fits = omega (arith, below (c .before), allowed-bounds _ (true-T _ (c .before .before .pre .0))) }
+
+is-live-key-requires : tie.Need-is-live-key-requires
+is-live-key-requires c κs = search needs
 
 returns : tie.Need-returns
-returns c =
-    let home = c .before in
-    let start = home .before .before .before .before in
-    rw (live (home .before .before), home .before .if1 .taken, ← homed home)
-    (before-ahead _ _ _ _ (c .if2 .taken) (start .pre .1) (start .pre .2))
+returns c = c .is-live-key .ensures ∙ sym (rw (ahead (c .before .before), lt-ltb _ _ (c .before .if2 .taken), and-true))
 
 returns-2 : tie.Need-returns-2
-returns-2 c =
-    let home = c .before in
-    let start = home .before .before .before .before in
-    rw (live (home .before .before), home .before .if1 .taken, ← homed home)
-    (before-around (start .args .c) (home .home .result) (start .args .i) _ (omega (arith, c .if2 .left)) (below home) (start .pre .2))
+returns-2 c = rw (ahead (c .before), le-ltb _ _ (c .if2 .left), and-false)
+
+is-live-key-requires-2 : tie.Need-is-live-key-requires-2
+is-live-key-requires-2 c κs = search needs
 
 returns-3 : tie.Need-returns-3
-returns-3 c = rw (live (c .before), c .if1 .left)
+returns-3 c = c .is-live-key2 .ensures ∙ sym (rw (around (c .before .before), lt-ltb _ _ (c .before .if3 .taken), and-true))
+
+returns-4 : tie.Need-returns-4
+returns-4 c = rw (around (c .before), le-ltb _ _ (c .if3 .left), and-false)
 
 pub is-cut-off-spec : {M : Type 1} → statement M
 is-cut-off-spec =
     tie.close
     (tie.spec
-    cell-key-requires
-    is-live-key-requires
     cast-home
     home-requires
     cast-home-2
-    add-result
+    add-if2
+    is-live-key-requires
     returns
     returns-2
-    returns-3)
+    is-live-key-requires-2
+    returns-3
+    returns-4)

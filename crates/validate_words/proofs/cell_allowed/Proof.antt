@@ -3,7 +3,8 @@
 use mathlib.Core.Path.{_≡_, sym, ap, _∙_}
 use mathlib.Core.Bool.{or-true}
 use borrow.Author.Tests.{eq-eqb, ne-eqb}
-use Rattle.semantics.specs.Words.{cellAllowed, tombstoneWord, isLiveKey, keyOf}
+use Rattle.semantics.specs.Words.{isLiveKey}
+use Rattle.semantics.specs.Narrow.{cellAllowed, tombstoneWord, keyOf}
 use borrow.Author.Needs.{needs}
 use Rattle.validate_words.proofs.cell_allowed.Statement.{statement}
 use Rattle.validate_words.proofs.cell_allowed.Tie as tie

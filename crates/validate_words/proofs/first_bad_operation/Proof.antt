@@ -4,17 +4,17 @@ use mathlib.Core.Path.{sym, ap, _∙_}
 use Prim.Native.Nat.{_-_}
 use mathlib.Core.Bool.{not}
 use lib.ListN.{length, getD}
-use Rattle.semantics.specs.Words.{operationAllowed}
+use Rattle.semantics.specs.Lent.{operationAllowedIn}
 use Rattle.semantics.proofs.Searches.{Searching, search-starts, search-goes-on, search-finds, search-ends}
 use borrow.Author.Needs.{needs}
 use Rattle.validate_words.proofs.first_bad_operation.Statement.{statement}
 use Rattle.validate_words.proofs.first_bad_operation.Tie as tie
 
 abbrev Inv-loop : tie.InvT-loop
-Inv-loop operations i₀ i = Searching (length operations) (λ j. not (operationAllowed (getD operations j 0))) i
+Inv-loop flagged operations i₀ i = Searching (length operations) (λ j. not (operationAllowedIn flagged (getD operations j 0))) i
 
 abbrev μ-loop : tie.MeasureT-loop
-μ-loop operations i₀ i = length operations - i
+μ-loop flagged operations i₀ i = length operations - i
 
 loop-holds : tie.Need-loop-holds Inv-loop μ-loop
 loop-holds c = search-starts
