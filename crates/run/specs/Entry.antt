@@ -1,51 +1,65 @@
 -- Document 01, "What one step does": what an entry that names an unfinished row leaves, on the words and records of the code. The step is that
--- of step/specs/Progress.antt.
+-- of step/specs/Record.antt.
 -- Assumes nothing.
-use Prim.Native.Nat.{ℕ, _+_}
+use Prim.Native.Nat.{ℕ, suc, _+_}
+use mathlib.Core.Bool.{Bool, cond, not, _&&_}
 use mathlib.Core.List.{List}
 use lib.Count.{ones}
+use lib.Dec.{eqb}
 use lib.ListN.{getD, set}
 use Rattle.semantics.specs.Sets.{including}
-use Rattle.step.specs.declared.Progress.{Progress}
-use Rattle.step.specs.declared.Event.{Event}
-use Rattle.step.specs.declared.Event.the-variants.{Passed, Held, Lost, Finished, Refused}
-use Rattle.step.specs.Progress.{begun, stepTaken}
+use Rattle.semantics.specs.Words.{isKind}
+use Rattle.rule.specs.declared.Operation.{Operation}
+use Rattle.turn.specs.declared.Turn.{Turn}
+use Rattle.turn.specs.declared.Turn.the-variants.{Pass, Hold, Lose, Finish, Refuse}
+use Rattle.turn.specs.declared.Left.{Left}
+use Rattle.step.specs.declared.Record.{Record}
+use Rattle.step.specs.Record.{begun, stepTaken}
+use Rattle.run.specs.Lent.{Lent, cellAt, withCell, withAnswer}
 
 -- where a run stands between two entries: the slices, every row's record, the set of finished rows and the lost swaps
 pub record Standing : Type 0 where
-  pub cells : List ℕ
-  pub records : List Progress
-  pub answers : List ℕ
+  pub table : Lent
+  pub records : List Record
+  pub answers : Lent
   pub log : List ℕ
   pub finished : ℕ
   pub lost : ℕ
 
--- what the event of row i's step adds: its answer and its log byte, where it finished; or a lost swap
-unfoldable pub told : Event → ℕ → ℕ → Standing → Standing
-told Passed i answer s = s
-told Held i answer s = s
-told Lost i answer s = record { cells = s .cells; records = s .records; answers = s .answers; log = s .log; finished = s .finished; lost = s .lost + 1 }
-told Finished i answer s =
+-- what the turn of row i adds: its answer and its log byte, where it finished; or a lost swap
+unfoldable pub told : Turn → ℕ → Standing → Standing
+told Pass i s = s
+told (Hold h) i s = s
+told Lose i s = record { table = s .table; records = s .records; answers = s .answers; log = s .log; finished = s .finished; lost = s .lost + 1 }
+told (Finish a) i s =
     record {
-      cells = s .cells;
+      table = s .table;
       records = s .records;
-      answers = set (s .answers) i answer;
+      answers = withAnswer (s .answers) i a;
       log = set (s .log) (ones (s .finished)) i;
       finished = including (s .finished) i;
       lost = s .lost;
     }
-told Refused i answer s = s
+told Refuse i s = s
+
+-- whether a step is a pass: the record of an operation of a kind and a key reads a cell of another key than that and 0, not the last of c
+unfoldable pub isPass : ℕ → ℕ → ℕ → ℕ → Record → Bool
+isPass kind own key c r = eqb (r .stage) 0 && (not (eqb key 0) && (not (eqb key own) && (not (eqb (suc (r .passed)) c) && isKind kind)))
+
+-- the table after a step at a place
+unfoldable pub storedBy : Lent → ℕ → Left → Lent
+storedBy l at left = cond (left .stores) (withCell l at (left .cell)) l
 
 -- "One step changes the lent record of one row and at most one cell": record i, and the cell at which it stands. proofs/Entry.antt says of every
 -- other record and cell that it is what it was.
-unfoldable pub afterEntry : ℕ → ℕ → Standing → Standing
-afterEntry operation i s =
+unfoldable pub afterEntry : ℕ → ℕ → Operation → ℕ → Standing → Standing
+afterEntry ceiling c operation i s =
     let p = getD (s .records) i (begun 0) in
-    let left = stepTaken (s .cells) operation p in
-    told (left .stepped .event) i (left .stepped .progress .answer)
+    let r = stepTaken ceiling c operation p (cellAt (s .table) (p .at)) in
+    told (r .left .turn) i
     (record {
-      cells = set (s .cells) (p .at) (left .word);
-      records = set (s .records) i (left .stepped .progress);
+      table = storedBy (s .table) (p .at) (r .left);
+      records = set (s .records) i (r .progress);
       answers = s .answers;
       log = s .log;
       finished = s .finished;

@@ -1,1 +1,3 @@
+pub mod Lent
 pub mod Entry
+pub mod First

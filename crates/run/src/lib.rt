@@ -1,125 +1,421 @@
 // A whole schedule (document 01, "What one step does" and "Where a call is turned away"): a call is
 // judged first, and only then is anything written; each entry then takes one step of the operation
-// that it names, or is idle.
+// that it names, or is idle. What follows the checks is written once for both widths: the table and the
+// answers are two slices each, of narrow words and of wide ones, of which one is empty, and words are
+// taken apart and packed at this edge alone. What asks something of its caller is private here.
 ghost use mathlib.Core.Path.{_≡_};
 ghost use mathlib.Core.List.{List};
-ghost use Prim.Native.Nat.{_<_};
+ghost use Prim.Native.Nat.{_+_, _≤_, _<_};
 ghost use lib.Count.{ones};
 ghost use lib.ListN.{length, getD, set};
-ghost use Rattle.semantics.specs.Sets.{including};
+ghost use Rattle.semantics.specs.Sets.{isIn, including};
 ghost use Rattle.semantics.specs.Refusals.{mostEntries};
-ghost use Rattle.semantics.specs.Run.{machine, refusalOf, acceptedResult};
+ghost use Rattle.semantics.specs.Narrow.{narrow, narrowWidth};
+ghost use Rattle.semantics.specs.Wide.{wideWidth};
+ghost use Rattle.semantics.specs.Widths.{widthOf};
+ghost use Rattle.semantics.specs.Run.{machine, acceptedResult};
 ghost use Rattle.semantics.specs.Demands.{Demands};
-ghost use Rattle.step.specs.declared.Progress.{Progress};
-ghost use Rattle.step.specs.Progress.{begun};
-ghost use Rattle.run.specs.Entry.{afterEntry};
-use advance::take_step;
-use begin::begin;
-use clear::clear;
+ghost use Rattle.step.specs.declared.Record.{Record};
+ghost use Rattle.step.specs.Record.{readingAt, begun, passing};
+ghost use Rattle.run.specs.Lent.{cellIn, operationIn, cellAt, placed, withAnswer, cleared, wordsIn, Ready};
+ghost use Rattle.run.specs.Entry.{storedBy, isPass, afterEntry};
+ghost use Rattle.run.specs.First.{firstRecords};
+use operation::operation_amount;
+use operation::operation_key;
+use operation::operation_kind;
 use outcome::made;
 use outcome::refused;
+use room::home;
+use rule::Answer;
+use rule::Cell;
+use rule::NOTHING;
+use rule::Operation;
+use rule::is_known;
+use semantics::MOST_OPERATIONS;
 use semantics::Outcome;
-use sets::has;
+use semantics::Total;
 use sets::size;
 use sets::with;
-use step::Event;
-use step::Progress;
+use step::READING;
+use step::Record;
+use step::take_step;
+use turn::Left;
+use turn::Turn;
 use validate::validate;
+use wide::wide_answer_word;
+use wide::wide_cell_word;
+use wide::wide_key;
+use wide::wide_kind;
+use wide::wide_operation_key;
+use wide::wide_total;
+use word::answer_word;
+use word::cell_key;
+use word::cell_total;
+use word::cell_word;
+use word::low_8;
+use word::low_16;
+
+// The total that sixteen bits are, and the values of a narrow cell and of a wide one.
+fn narrow_total(bits: u16) -> Total
+    ensures { λ r. ⌜ r ≡ narrow bits ⌝ }
+{
+    Total {
+        amount: bits as u32,
+        saturated: bits == 65535,
+    }
+}
+
+fn narrow_cell(w: u32) -> Cell
+    ensures { λ r. ⌜ r ≡ cellIn narrowWidth w ⌝ }
+{
+    Cell {
+        key: cell_key(w),
+        total: narrow_total(cell_total(w)),
+    }
+}
+
+fn wide_cell(w: u64) -> Cell
+    ensures { λ r. ⌜ r ≡ cellIn wideWidth w ⌝ }
+{
+    Cell {
+        key: wide_key(w),
+        total: wide_total(w),
+    }
+}
+
+// The kind and the key of an operation, which is wide or narrow, and all its values.
+fn kind_of(flagged: bool, w: u64) -> u8
+    ensures { λ r. ⌜ r ≡ widthOf flagged .kindBits w ⌝ }
+{
+    if flagged {
+        return wide_kind(w);
+    }
+    operation_kind(w)
+}
+
+fn key_of(flagged: bool, w: u64) -> u16
+    ensures { λ r. ⌜ r ≡ widthOf flagged .operationKey w ⌝ }
+{
+    if flagged {
+        return wide_operation_key(w);
+    }
+    operation_key(w)
+}
+
+fn amount_of(flagged: bool, w: u64) -> Total
+    ensures { λ r. ⌜ r ≡ widthOf flagged .amountIn w ⌝ }
+{
+    if flagged {
+        return wide_total(w);
+    }
+    narrow_total(operation_amount(w))
+}
+
+fn operation_of(flagged: bool, w: u64) -> Operation
+    ensures { λ r. ⌜ r ≡ operationIn (widthOf flagged) w ⌝ }
+{
+    Operation {
+        kind: kind_of(flagged, w),
+        key: key_of(flagged, w),
+        amount: amount_of(flagged, w),
+    }
+}
+
+// The ceiling of a table's totals.
+fn ceiling_of(flagged: bool) -> u32
+    ensures { λ r. ⌜ r ≡ widthOf flagged .ceiling ⌝ }
+{
+    if flagged {
+        return 4294967295;
+    }
+    65535
+}
+
+// The key of the cell at a place of the table, and the cell.
+fn load_key(narrow: &[u32], wide: &[u64], at: usize) -> u16
+    requires { ⌜ at < length (now narrow) + length (now wide) ⌝ }
+    ensures { λ r. ⌜ r ≡ cellAt (record { narrow = now (narrow .entry); wide = now (wide .entry) }) at .key ⌝ }
+{
+    if at < narrow.len() {
+        return cell_key(narrow[at]);
+    }
+    wide_key(wide[at - narrow.len()])
+}
+
+fn load(narrow: &[u32], wide: &[u64], at: usize) -> Cell
+    requires { ⌜ at < length (now narrow) + length (now wide) ⌝ }
+    ensures { λ r. ⌜ r ≡ cellAt (record { narrow = now (narrow .entry); wide = now (wide .entry) }) at ⌝ }
+{
+    if at < narrow.len() {
+        return narrow_cell(narrow[at]);
+    }
+    wide_cell(wide[at - narrow.len()])
+}
+
+// Stores one of two words, by the slice in which a place lies.
+fn place(narrow: &mut [u32], wide: &mut [u64], at: usize, thin: u32, fat: u64)
+    requires { ⌜ at < length (now narrow) + length (now wide) ⌝ }
+    ensures { λ _. ⌜ placed (record { narrow = now (narrow .entry); wide = now (wide .entry) }) at thin fat
+        ≡ record { narrow = now (narrow .exit); wide = now (wide .exit) } ⌝ }
+{
+    if at < narrow.len() {
+        narrow[at] = thin;
+        return;
+    }
+    let rest = at - narrow.len();
+    wide[rest] = fat;
+}
+
+// Stores what a step leaves, if it stores anything.
+fn store(narrow: &mut [u32], wide: &mut [u64], at: usize, left: Left)
+    requires { ⌜ at < length (now narrow) + length (now wide) ⌝ }
+    ensures { λ _. ⌜ storedBy (record { narrow = now (narrow .entry); wide = now (wide .entry) }) at left
+        ≡ record { narrow = now (narrow .exit); wide = now (wide .exit) } ⌝ }
+{
+    if left.stores {
+        let cell = left.cell;
+        let total = cell.total;
+        place(
+            narrow,
+            wide,
+            at,
+            cell_word(cell.key, low_16(total.amount as u64)),
+            wide_cell_word(cell.key, total),
+        );
+    }
+}
 
 // An operation finishes: its answer is written, and it enters the log behind those that finished before
 // it. Gives the set of finished operations with it.
-fn finish(answers: &mut [u32], log: &mut [u8], finished: u64, entry: u8, answer: u32) -> u64
-    requires { ⌜ (entry < length (now answers)) × (ones finished < length (now log)) ⌝ }
+fn finish(
+    answers32: &mut [u32],
+    answers64: &mut [u64],
+    log: &mut [u8],
+    finished: u64,
+    entry: u8,
+    answer: Answer,
+) -> u64
+    requires { ⌜ (entry < length (now answers32) + length (now answers64)) × (ones finished < length (now log)) ⌝ }
     ensures { λ r. ⌜ (r ≡ including finished entry)
-        × (now (answers .exit) ≡ set (now (answers .entry)) entry answer)
+        × (withAnswer (record { narrow = now (answers32 .entry); wide = now (answers64 .entry) }) entry answer
+        ≡ record { narrow = now (answers32 .exit); wide = now (answers64 .exit) })
         × (now (log .exit) ≡ set (now (log .entry)) (ones finished) entry) ⌝ }
 {
-    answers[entry as usize] = answer;
+    let code = low_8(answer.code as u64);
+    let total = answer.total;
+    place(
+        answers32,
+        answers64,
+        entry as usize,
+        answer_word(code, low_16(total.amount as u64)),
+        wide_answer_word(code, total),
+    );
     log[size(finished)] = entry;
     with(finished, entry)
+}
+
+// Whether an operation has finished: that an entry is one of 64 places is asked here, and not tested.
+fn is_finished(finished: u64, entry: u8) -> bool
+    requires { ⌜ entry < 64 ⌝ }
+    ensures { λ r. ⌜ r ≡ isIn finished entry ⌝ }
+{
+    (finished >> entry) & 1 == 1
+}
+
+// Whether the step of a record is a pass: it reads, and its cell, which is not the last of c, has
+// another key or is a tombstone. Most steps are, and are told by the keys before anything else is taken
+// apart.
+fn is_pass(kind: u8, own: u16, key: u16, c: usize, progress: Record) -> bool
+    requires { ⌜ progress .passed < c ⌝ }
+    ensures { λ r. ⌜ r ≡ isPass kind own key c progress ⌝ }
+{
+    if progress.stage == READING {
+        if key != 0 {
+            if key != own {
+                if c - progress.passed != 1 {
+                    return is_known(kind);
+                }
+            }
+        }
+    }
+    false
 }
 
 // What an entry leaves beside the slices: the record of the operation that it names, the set of finished
 // operations and the lost swaps.
 struct Entered {
-    progress: Progress,
+    progress: Record,
     finished: u64,
     lost: usize,
 }
 
-// The record is made anew, field by field: copied whole it would hand on its padding at every entry
-// (docs/DECISIONS.md).
-fn leave(progress: Progress, finished: u64, lost: usize) -> Entered
-    ensures { λ r. ⌜ r ≡ record { progress = progress; finished = finished; lost = lost } ⌝ }
+// The record of an operation that reads.
+fn reading(at: usize, passed: usize) -> Record
+    ensures { λ r. ⌜ r ≡ readingAt at passed ⌝ }
 {
-    let next = Progress {
-        at: progress.at,
-        passed: progress.passed,
-        holds: progress.holds,
-        held: progress.held,
-        answer: progress.answer,
-    };
-    Entered {
-        progress: next,
-        finished: finished,
-        lost: lost,
+    Record {
+        at: at,
+        passed: passed,
+        stage: READING,
+        code: 0,
+        total: NOTHING,
     }
 }
 
-// Takes an entry that names an unfinished operation: one step of it, and what the step's event adds.
+// The record after a pass, of one that is known to stand within the table; of any record the pass is
+// step's own.
+fn passed_on(progress: Record, c: usize) -> Record
+    requires { ⌜ (progress .at < c) × (progress .passed < c) ⌝ }
+    ensures { λ r. ⌜ r ≡ passing c progress ⌝ }
+{
+    let next = progress.at + 1;
+    let passed = progress.passed + 1;
+    if next == c {
+        return reading(0, passed);
+    }
+    reading(next, passed)
+}
+
+// Takes an entry that names an unfinished operation: one step of it, and what its turn adds.
 //
 // It is lent a copy of that operation's record, which the loop puts back. Whatever the records of the
 // run are, with this one back in its place they are those after the entry, every other as it was. All
 // of them are not lent: a reference to their array would make the loop a proof by hand, and by value
 // the array is copied at every entry.
 fn take_entry(
-    cells: &mut [u32],
-    answers: &mut [u32],
+    narrow: &mut [u32],
+    wide: &mut [u64],
+    answers32: &mut [u32],
+    answers64: &mut [u64],
     log: &mut [u8],
-    operation: u64,
-    progress: Progress,
+    ceiling: u32,
+    c: usize,
+    flagged: bool,
+    w: u64,
+    progress: Record,
     entry: u8,
     finished: u64,
     lost: usize,
 ) -> Entered
-    requires { ⌜ (entry < length (now answers)) × (ones finished < length (now log)) × (lost < mostEntries) ⌝ }
-    ensures { λ r. ⌜ ((records : List Progress) → getD records entry (begun 0) ≡ progress
-        → afterEntry operation entry (record { cells = now (cells .entry); records = records; answers = now (answers .entry); log = now (log .entry); finished = finished; lost = lost })
-        ≡ record { cells = now (cells .exit); records = set records entry (r .progress); answers = now (answers .exit); log = now (log .exit); finished = r .finished; lost = r .lost }) ⌝ }
+    requires { ⌜ (progress .at < length (now narrow) + length (now wide)) × (progress .at < c) × (progress .passed < c) × (entry < length (now answers32) + length (now answers64))
+        × (ones finished < length (now log)) × (lost < mostEntries) ⌝ }
+    ensures { λ r. ⌜ ((records : List Record) → getD records entry (begun 0) ≡ progress
+        → afterEntry ceiling c (operationIn (widthOf flagged) w) entry (record {
+          table = record { narrow = now (narrow .entry); wide = now (wide .entry) };
+          records = records;
+          answers = record { narrow = now (answers32 .entry); wide = now (answers64 .entry) };
+          log = now (log .entry);
+          finished = finished;
+          lost = lost;
+        })
+        ≡ record {
+          table = record { narrow = now (narrow .exit); wide = now (wide .exit) };
+          records = set records entry (r .progress);
+          answers = record { narrow = now (answers32 .exit); wide = now (answers64 .exit) };
+          log = now (log .exit);
+          finished = r .finished;
+          lost = r .lost;
+        }) ⌝ }
 {
-    let stepped = take_step(cells, operation, progress);
+    let at = progress.at;
+    if is_pass(
+        kind_of(flagged, w),
+        key_of(flagged, w),
+        load_key(narrow, wide, at),
+        c,
+        progress,
+    ) {
+        return Entered {
+            progress: passed_on(progress, c),
+            finished: finished,
+            lost: lost,
+        };
+    }
+    let cell = load(narrow, wide, at);
+    let stepped = take_step(cell, ceiling, c, operation_of(flagged, w), progress);
+    let left = stepped.left;
     let next = stepped.progress;
-    let event = stepped.event;
-    match event {
-        Event::Finished => {
-            let grown = finish(answers, log, finished, entry, next.answer);
-            leave(next, grown, lost)
+    store(narrow, wide, at, left);
+    let turn = left.turn;
+    match turn {
+        Turn::Finish(answer) => {
+            let grown = finish(answers32, answers64, log, finished, entry, answer);
+            Entered {
+                progress: next,
+                finished: grown,
+                lost: lost,
+            }
         }
-        Event::Lost => leave(next, finished, lost + 1),
-        _ => leave(next, finished, lost),
+        Turn::Lose => Entered {
+            progress: next,
+            finished: finished,
+            lost: lost + 1,
+        },
+        _ => Entered {
+            progress: next,
+            finished: finished,
+            lost: lost,
+        },
     }
 }
 
-// Takes the schedule's entries in turn, on a call that is not turned away.
+// No operation has an answer yet.
+fn clear_answers(answers32: &mut [u32], answers64: &mut [u64], n: usize)
+    requires { ⌜ n ≤ length (now answers32) + length (now answers64) ⌝ }
+    ensures { λ _. ⌜ cleared (record { narrow = now (answers32 .entry); wide = now (answers64 .entry) }) n
+        ≡ record { narrow = now (answers32 .exit); wide = now (answers64 .exit) } ⌝ }
+{
+    let mut i = 0;
+    while i < n {
+        place(answers32, answers64, i, 0, 0);
+        i = i + 1;
+    }
+}
+
+// Each operation reads first at the home of its key. There is room for 64: any further ones have no
+// record.
+fn begin(flagged: bool, c: u32, operations: &[u64]) -> [Record; MOST_OPERATIONS]
+    ensures { λ r. ⌜ r ≡ firstRecords (widthOf flagged) c (now (operations .entry)) ⌝ }
+{
+    let mut records = [reading(0, 0); MOST_OPERATIONS];
+    let mut i = 0;
+    while i < MOST_OPERATIONS {
+        if i == operations.len() {
+            return records;
+        }
+        records[i] = reading(home(key_of(flagged, operations[i]), c) as usize, 0);
+        i = i + 1;
+    }
+    records
+}
+
+// Takes the schedule's entries in turn, on a call that is not turned away, wide or narrow.
 fn entries(
-    cells: &mut [u32],
+    flagged: bool,
+    narrow: &mut [u32],
+    wide: &mut [u64],
     operations: &[u64],
     schedule: &[u8],
-    answers: &mut [u32],
+    answers32: &mut [u32],
+    answers64: &mut [u64],
     log: &mut [u8],
 ) -> Outcome
-    requires { ⌜ refusalOf (now cells) (now operations) (now schedule) (now answers) (now log) .number ≡ 0 ⌝ }
-    ensures { λ r. ⌜ acceptedResult (machine (now (cells .entry)) (now (operations .entry)) (now (schedule .entry))) (now (answers .entry)) (now (log .entry))
+    requires { ⌜ Ready flagged (record { narrow = now narrow; wide = now wide }) (now operations) (now schedule)
+        (record { narrow = now answers32; wide = now answers64 }) (now log) ⌝ }
+    ensures { λ r. ⌜ acceptedResult (widthOf flagged)
+        (machine (widthOf flagged) (wordsIn flagged (record { narrow = now (narrow .entry); wide = now (wide .entry) })) (now (operations .entry)) (now (schedule .entry)))
+        (wordsIn flagged (record { narrow = now (answers32 .entry); wide = now (answers64 .entry) })) (now (log .entry))
         ≡ record {
           outcome = r;
-          cells = now (cells .exit);
-          answers = now (answers .exit);
+          cells = wordsIn flagged (record { narrow = now (narrow .exit); wide = now (wide .exit) });
+          answers = wordsIn flagged (record { narrow = now (answers32 .exit); wide = now (answers64 .exit) });
           log = now (log .exit);
         } ⌝ }
 {
-    let n = operations.len();
-    clear(&mut answers[..n]);
-    let mut records = begin(cells.len() as u32, operations);
+    let c = narrow.len() + wide.len();
+    let ceiling = ceiling_of(flagged);
+    clear_answers(answers32, answers64, operations.len());
+    let mut records = begin(flagged, c as u32, operations);
     let mut finished = 0;
     let mut lost = 0;
     let mut idle = 0;
@@ -127,15 +423,20 @@ fn entries(
     while k < schedule.len() {
         let entry = schedule[k];
         k = k + 1;
-        if has(finished, entry) {
+        if is_finished(finished, entry) {
             idle = idle + 1;
             continue;
         }
         let i = entry as usize;
         let entered = take_entry(
-            cells,
-            answers,
+            narrow,
+            wide,
+            answers32,
+            answers64,
             log,
+            ceiling,
+            c,
+            flagged,
             operations[i],
             records[i],
             entry,
@@ -163,12 +464,23 @@ pub fn run(
     answers: &mut [u32],
     log: &mut [u8],
 ) -> Outcome
-    ensures { λ r. ⌜ Demands (now (cells .entry)) (now (operations .entry)) (now (schedule .entry)) (now (answers .entry)) (now (log .entry))
+    ensures { λ r. ⌜ Demands narrowWidth (now (cells .entry)) (now (operations .entry)) (now (schedule .entry)) (now (answers .entry)) (now (log .entry))
         (record { outcome = r; cells = now (cells .exit); answers = now (answers .exit); log = now (log .exit) }) ⌝ }
 {
     let refusal = validate(cells, operations, schedule, answers.len(), log.len());
     if refusal.number == 0 {
-        return entries(cells, operations, schedule, answers, log);
+        let mut no_cells = [0u64; 0];
+        let mut no_answers = [0u64; 0];
+        return entries(
+            false,
+            cells,
+            &mut no_cells,
+            operations,
+            schedule,
+            answers,
+            &mut no_answers,
+            log,
+        );
     }
     refused(refusal.number, refusal.place)
 }

@@ -1,111 +1,167 @@
 -- `run::entries` meets its contract: Loop.antt has what the loop keeps, and that each way round keeps it.
 -- Assumes nothing.
 use mathlib.Core.Path.{_≡_, refl, sym, ap, _∙_}
-use Prim.Native.Nat.{ℕ, _-_, _≤_, _<_}
+use Prim.Native.Nat.{ℕ, _+_, _-_, _≤_, _<_}
+use mathlib.Core.Bool.{Bool, false}
+use mathlib.Core.List.{List}
 use native.Mathlib.Omega.{arith}
-use mathlib.Core.Bool.{false}
-use mathlib.Core.List.{_++_}
-use lib.ListN.{length, replicate, length-replicate, getD, take, drop}
-use lib.Seq.{length-take-le}
+use lib.ListN.{length, replicate, length-replicate, getD, take}
 use borrow.Author.Needs.{needs}
 use Rattle.semantics.specs.Sets.{isIn}
+use Rattle.semantics.specs.Widths.{widthOf}
 use Rattle.semantics.specs.Refusals.{Call, callOf}
 use Rattle.semantics.specs.Run.{over, machine}
-use Rattle.semantics.proofs.Narrow.{allowed-bounds}
+use Rattle.semantics.proofs.Sizes.{allowed-bounds}
 use Rattle.semantics.proofs.Start.{Passed, accepted-call}
-use Rattle.semantics.proofs.Over.{over-length, over-zeros}
-use Rattle.run.proofs.Loop.{At, at-start, cells-long, answers-long, log-long, at-end, at-idle, room, at-entry}
+use Rattle.semantics.proofs.Over.{over-length}
+use Rattle.run.specs.Lent.{Lent, laidIn, wordsIn, operationIn, cleared}
+use Rattle.run.specs.Entry.{Standing, afterEntry}
+use Rattle.run.specs.First.{firstRecords}
+use Rattle.run.proofs.Lent.{laid, laid-long, laid-words, cleared-laid}
+use Rattle.run.proofs.Loop.{At, at-start, table-slices, answers-slices, answers-long, log-long, at-end, at-idle, at-inside, at-below, passed-below, room, at-entry}
 use Rattle.run.proofs.entries.Statement.{statement}
 use Rattle.run.proofs.entries.Tie as tie
 
 abbrev Inv-loop : tie.InvT-loop
-Inv-loop cells₀ operations schedule answers₀ log₀ n₀ records₀ finished₀ lost₀ idle₀ k₀ cells answers log records finished lost idle k =
-    (k ≤ length schedule) × At (length cells₀) answers₀ log₀ (machine cells₀ operations (take k schedule)) k cells records answers log finished lost idle
+Inv-loop flagged narrow₀ wide₀ operations schedule answers32₀ answers64₀ log₀ c ceiling records₀ finished₀ lost₀ idle₀ k₀ narrow wide answers32 answers64 log records finished lost idle k =
+    let cells = wordsIn flagged (record { narrow = narrow₀; wide = wide₀ }) in
+    (k ≤ length schedule)
+    × At flagged (length cells) (wordsIn flagged (record { narrow = answers32₀; wide = answers64₀ })) log₀ (machine (widthOf flagged) cells operations (take k schedule)) k
+    (record { narrow = narrow; wide = wide }) records (record { narrow = answers32; wide = answers64 }) log finished lost idle
 
 abbrev μ-loop : tie.MeasureT-loop
-μ-loop cells₀ operations schedule answers₀ log₀ n₀ records₀ finished₀ lost₀ idle₀ k₀ cells answers log records finished lost idle k = length schedule - k
+μ-loop flagged narrow₀ wide₀ operations schedule answers32₀ answers64₀ log₀ c ceiling records₀ finished₀ lost₀ idle₀ k₀ narrow wide answers32 answers64 log records finished lost idle k =
+    length schedule - k
 
--- the call, and that the checks let it pass
+-- what is lent, as words of one width, and that the checks let the call pass
+abbrev table : tie.Start Inv-loop μ-loop → Lent
+table c = record { narrow = c .args .narrow .now; wide = c .args .wide .now }
+
+abbrev answers : tie.Start Inv-loop μ-loop → Lent
+answers c = record { narrow = c .args .answers32 .now; wide = c .args .answers64 .now }
+
+abbrev cells-of : tie.Start Inv-loop μ-loop → List ℕ
+cells-of c = wordsIn (c .args .flagged) (table c)
+
+abbrev answers-of : tie.Start Inv-loop μ-loop → List ℕ
+answers-of c = wordsIn (c .args .flagged) (answers c)
+
 abbrev called : tie.Start Inv-loop μ-loop → Call
-called c =
-    let a = c .args in
-    callOf (a .cells .now) (a .operations .now) (a .schedule .now) (length (a .answers .now)) (length (a .log .now))
+called c = callOf (cells-of c) (c .args .operations .now) (c .args .schedule .now) (length (answers-of c)) (length (c .args .log .now))
 
-ok : (c : tie.Start Inv-loop μ-loop) → Passed (called c)
-ok c = accepted-call (called c) (c .pre)
+ok : (c : tie.Start Inv-loop μ-loop) → Passed (widthOf (c .args .flagged)) (called c)
+ok c = accepted-call (widthOf (c .args .flagged)) (called c) (c .pre .accepted)
+
+table-laid : (c : tie.Start Inv-loop μ-loop) → table c ≡ laidIn (c .args .flagged) (cells-of c)
+table-laid c = laid (c .args .flagged) (table c) (c .pre .cells-alone)
+
+answers-laid : (c : tie.Start Inv-loop μ-loop) → answers c ≡ laidIn (c .args .flagged) (answers-of c)
+answers-laid c = laid (c .args .flagged) (answers c) (c .pre .answers-alone)
+
+table-size : (c : tie.Start Inv-loop μ-loop) → length (c .args .narrow .now) + length (c .args .wide .now) ≡ length (cells-of c)
+table-size c = laid-long (c .args .flagged) (cells-of c) (table-laid c)
 
 -- the start of the function as the clearing of the answers sees it, and as the loop does; and the turn of an entry that is not idle
-abbrev lent : tie.After-slice-known3 Inv-loop μ-loop → tie.Start Inv-loop μ-loop
-lent c = c .before .before .before .before .before
+abbrev clearing : tie.After-clear-answers Inv-loop μ-loop → tie.Start Inv-loop μ-loop
+clearing c = c .before .before .before .before .before .before .before .before .before .before .before
 
-abbrev clearing : tie.After-clear Inv-loop μ-loop → tie.Start Inv-loop μ-loop
-clearing c = lent (c .before .before)
-
-abbrev clear-of : tie.At-loop Inv-loop μ-loop → tie.After-clear Inv-loop μ-loop
-clear-of c = c .before .before .before .before
+abbrev clear-of : tie.After-begin Inv-loop μ-loop → tie.After-clear-answers Inv-loop μ-loop
+clear-of c = c .before .before .before .before .before
 
 abbrev start : tie.At-loop Inv-loop μ-loop → tie.Start Inv-loop μ-loop
-start c = clearing (clear-of c)
+start c = clearing (clear-of (c .before))
 
 abbrev turn : tie.Else1 Inv-loop μ-loop → tie.In-loop Inv-loop μ-loop
 turn c = c .before .before .before
 
 -- an entry that was taken, as the store of its record sees it, and the turn that it was taken in
 abbrev taken : tie.After-progress Inv-loop μ-loop → tie.After-take-entry Inv-loop μ-loop
-taken c = c .before .before .before .before .before .before .before
+taken c = c .before .before .before .before .before .before .before .before .before .before .before
 
-abbrev open-entry : tie.After-progress Inv-loop μ-loop → tie.Else1 Inv-loop μ-loop
-open-entry c = taken c .before .before .before .before .before .before
+abbrev open-entry : tie.After-take-entry Inv-loop μ-loop → tie.Else1 Inv-loop μ-loop
+open-entry c = c .before .before .before .before .before .before .before .before
 
--- what an entry names that is not idle
-entry-below : (c : tie.Else1 Inv-loop μ-loop)
-    → let s = start (turn c .before) in getD (s .args .schedule .now) (turn c .before .loop .k) 0 < length (s .args .operations .now)
-entry-below c = ok (start (turn c .before)) .entries (turn c .before .loop .k) (turn c .loop-test .taken)
+-- where the run stands at a turn
+abbrev standing : tie.At-loop Inv-loop μ-loop → Standing
+standing c =
+    let l = c .loop in
+    record {
+      table = record { narrow = l .narrow; wide = l .wide };
+      records = l .records;
+      answers = record { narrow = l .answers32; wide = l .answers64 };
+      log = l .log;
+      finished = l .finished;
+      lost = l .lost;
+    }
 
-small : (c : tie.Else1 Inv-loop μ-loop) → getD (start (turn c .before) .args .schedule .now) (turn c .before .loop .k) 0 < 64
-small c = omega (arith, entry-below c, ok (start (turn c .before)) .few)
+-- what an entry names, and where it is not idle
+entry-below : (c : tie.In-loop Inv-loop μ-loop)
+    → let s = start (c .before) in getD (s .args .schedule .now) (c .before .loop .k) 0 < length (s .args .operations .now)
+entry-below c = ok (start (c .before)) .entries (c .before .loop .k) (c .loop-test .taken)
+
+small : (c : tie.In-loop Inv-loop μ-loop) → getD (start (c .before) .args .schedule .now) (c .before .loop .k) 0 < 64
+small c = omega (arith, entry-below c, ok (start (c .before)) .few)
 
 unfinished : (c : tie.Else1 Inv-loop μ-loop)
     → isIn (turn c .before .loop .finished) (getD (start (turn c .before) .args .schedule .now) (turn c .before .loop .k) 0) ≡ false
-unfinished c = sym (c .before .has .ensures) ∙ c .if1 .left
+unfinished c = sym (c .before .is-finished .ensures) ∙ c .if1 .left
 
--- the answers that are cleared are as long as those lent
-cleared : (c : tie.After-clear Inv-loop μ-loop)
-    → let a = clearing c .args in
-    let n = length (a .operations .now) in
-    c .clear .last .0 ++ drop n (a .answers .now) ≡ over (replicate n 0) (a .answers .now)
-cleared c =
-    let a = clearing c .args in
-    over-zeros (length (a .operations .now)) (a .answers .now) (ok (clearing c) .answers) (c .clear .ensures)
+-- the answers as they are cleared
+abbrev cleared-answers : tie.After-clear-answers Inv-loop μ-loop → Lent
+cleared-answers c = record { narrow = c .clear-answers .last .0; wide = c .clear-answers .last .1 .0 }
 
-cleared-long : (c : tie.At-loop Inv-loop μ-loop)
-    → let a = start c .args in
-    length (clear-of c .clear .last .0 ++ drop (length (a .operations .now)) (a .answers .now)) ≡ length (a .answers .now)
+cleared-laid-in : (c : tie.After-clear-answers Inv-loop μ-loop)
+    → let s = clearing c in
+    cleared-answers c ≡ laidIn (s .args .flagged) (over (replicate (length (s .args .operations .now)) 0) (answers-of s))
+cleared-laid-in c =
+    let s = clearing c in
+    let n = length (s .args .operations .now) in
+    sym (c .clear-answers .ensures) ∙ ap (λ (l : Lent). cleared l n) (answers-laid s) ∙ cleared-laid (s .args .flagged) (answers-of s) n (ok s .answers)
+
+cleared-is : (c : tie.After-clear-answers Inv-loop μ-loop)
+    → let s = clearing c in
+    wordsIn (s .args .flagged) (cleared-answers c) ≡ over (replicate (length (s .args .operations .now)) 0) (answers-of s)
+cleared-is c = let b = clearing c .args .flagged in ap (wordsIn b) (cleared-laid-in c) ∙ laid-words b _
+
+cleared-long : (c : tie.After-clear-answers Inv-loop μ-loop)
+    → let s = clearing c in
+    length (wordsIn (s .args .flagged) (cleared-answers c)) ≡ length (answers-of s)
 cleared-long c =
-    let n = length (start c .args .operations .now) in
-    ap length (cleared (clear-of c)) ∙ over-length (replicate n 0) _ (omega (arith, length-replicate {A = ℕ} n 0, ok (start c) .answers))
+    let s = clearing c in
+    let n = length (s .args .operations .now) in
+    ap length (cleared-is c) ∙ over-length (replicate n 0) (answers-of s) (omega (arith, length-replicate {A = ℕ} n 0, ok s .answers))
 
-slice-relend-prefix-clear : tie.Need-slice-relend-prefix-clear Inv-loop μ-loop
-slice-relend-prefix-clear c = ok (lent c) .answers
+room-for : (c : tie.At-loop Inv-loop μ-loop)
+    → length (start c .args .operations .now) ≤ length (wordsIn (start c .args .flagged) (cleared-answers (clear-of (c .before))))
+room-for c = omega (arith, ok (start c) .answers, cleared-long (clear-of (c .before)))
 
-slice-aggregate-clear : tie.Need-slice-aggregate-clear Inv-loop μ-loop
-slice-aggregate-clear c =
-    let s = lent (c .before) in
-    sym (length-take-le (length (s .args .operations .now)) (s .args .answers .now) (ok s .answers))
+add-c : tie.Need-add-c Inv-loop μ-loop
+add-c c = record { fits = omega (arith, table-size (c .before .before .before .before .before .before .before), allowed-bounds _ (ok (c .before .before .before .before .before .before .before) .size)) }
 
-clear-requires : tie.Need-clear-requires Inv-loop μ-loop
-clear-requires c κs = search needs
+ceiling-of-requires : tie.Need-ceiling-of-requires Inv-loop μ-loop
+ceiling-of-requires c κs = search needs
+
+clear-answers-requires : tie.Need-clear-answers-requires Inv-loop μ-loop
+clear-answers-requires c κs =
+    let s = c .before .before .before .before .before .before .before .before .before .before in
+    omega (arith, laid-long (s .args .flagged) (answers-of s) (answers-laid s), ok s .answers)
 
 cast-begin : tie.Need-cast-begin Inv-loop μ-loop
-cast-begin c = record { fits = omega (arith, allowed-bounds _ (ok (clearing (c .before .before)) .size)) }
+cast-begin c = let s = clearing (c .before .before .before .before) in record { fits = omega (arith, table-size s, allowed-bounds _ (ok s .size)) }
 
 begin-requires : tie.Need-begin-requires Inv-loop μ-loop
 begin-requires c κs = search needs
 
 loop-holds : tie.Need-loop-holds Inv-loop μ-loop
 loop-holds c =
-    let clear = c .before .before .before in
-    (omega arith, at-start (ok (clearing clear)) _ (cleared clear) (c .begin .ensures))
+    let clear = clear-of c in
+    let s = clearing clear in (
+      omega arith,
+      at-start (s .args .flagged) (ok s) (answers-of s) (table-laid s)
+          (cleared-laid-in clear ∙ ap (laidIn (s .args .flagged)) (sym (cleared-is clear)))
+          (cleared-is clear)
+          (c .begin .ensures ∙ ap (λ (n : ℕ). firstRecords (widthOf (s .args .flagged)) n (s .args .operations .now)) (table-size s)),
+    )
 
 shared-slice-read-entry : tie.Need-shared-slice-read-entry Inv-loop μ-loop
 shared-slice-read-entry c = search needs
@@ -113,86 +169,116 @@ shared-slice-read-entry c = search needs
 add-k : tie.Need-add-k Inv-loop μ-loop
 add-k c = search needs
 
-has-requires : tie.Need-has-requires Inv-loop μ-loop
-has-requires c κs = search needs
+is-finished-requires : tie.Need-is-finished-requires Inv-loop μ-loop
+is-finished-requires c κs = small (c .before)
 
 add-idle : tie.Need-add-idle Inv-loop μ-loop
-add-idle c = record { fits = omega (arith, c .before .before .before .before .loop .inv .1 .few, c .before .before .before .loop-test .taken, ok (start (c .before .before .before .before)) .short) }
+add-idle c =
+    let t = c .before .before .before in
+    record { fits = omega (arith, t .before .loop .inv .1 .few, t .loop-test .taken, ok (start (t .before)) .short) }
 
 loop-less : tie.Need-loop-less Inv-loop μ-loop
 loop-less c = search needs
 
 loop-again : tie.Need-loop-again Inv-loop μ-loop
 loop-again c =
-    let t = c .before .before .before in (
+    let t = c .before .before .before in
+    let s = start (t .before) in (
       omega (arith, t .loop-test .taken),
-      at-idle (ok (start (t .before))) (t .before .loop .inv .1) (t .loop-test .taken) refl (sym (c .before .has .ensures) ∙ c .if1 .taken),
+      at-idle (s .args .flagged) (ok s) (t .before .loop .inv .1) (t .loop-test .taken) refl (sym (c .before .is-finished .ensures) ∙ c .if1 .taken),
     )
 
 cast-i : tie.Need-cast-i Inv-loop μ-loop
-cast-i c = record { fits = omega (arith, small c) }
+cast-i c = record { fits = omega (arith, small (turn c)) }
 
 mul-take-entry : tie.Need-mul-take-entry Inv-loop μ-loop
-mul-take-entry c = record { fits = omega (arith, small (c .before .before .before)) }
+mul-take-entry c = record { fits = omega (arith, small (turn (c .before .before .before .before .before))) }
 
 shared-slice-read-take-entry : tie.Need-shared-slice-read-take-entry Inv-loop μ-loop
-shared-slice-read-take-entry c = entry-below (c .before .before .before .before)
+shared-slice-read-take-entry c = entry-below (turn (c .before .before .before .before .before .before))
 
 mul-take-entry-2 : tie.Need-mul-take-entry-2 Inv-loop μ-loop
-mul-take-entry-2 c = record { fits = omega (arith, small (c .before .before .before .before)) }
+mul-take-entry-2 c = record { fits = omega (arith, small (turn (c .before .before .before .before .before .before))) }
 
 array-copy-out-take-entry : tie.Need-array-copy-out-take-entry Inv-loop μ-loop
-array-copy-out-take-entry c = small (c .before .before .before .before)
+array-copy-out-take-entry c = small (turn (c .before .before .before .before .before .before))
 
 take-entry-requires : tie.Need-take-entry-requires Inv-loop μ-loop
 take-entry-requires c κs =
-    let e = c .before .before .before .before .before in
+    let e = c .before .before .before .before .before .before .before in
     let a = turn e .before in
-    let o = ok (start a) in
+    let s = start a in
+    let b = s .args .flagged in
+    let o = ok s in
     let at = a .loop .inv .1 in (
-      omega (arith, entry-below e, answers-long o at (omega (arith, cleared-long a, o .answers)), cleared-long a, o .answers),
-      omega (arith, log-long o at (o .log), room o at (turn e .loop-test .taken) refl (unfinished e) (o .log)),
+      at-inside b o at (turn e .loop-test .taken) refl (unfinished e),
+      omega (arith, at-below b o at (turn e .loop-test .taken) refl (unfinished e), table-size s),
+      omega (arith, passed-below b o at (turn e .loop-test .taken) refl (unfinished e), table-size s),
+      omega (arith, entry-below (turn e), answers-long b o at (room-for a), room-for a),
+      omega (arith, log-long b o at (o .log), room b o at (turn e .loop-test .taken) refl (unfinished e) (o .log)),
       omega (arith, at .few, turn e .loop-test .taken, o .short),
     )
 
 mul-records : tie.Need-mul-records Inv-loop μ-loop
-mul-records c = record { fits = omega (arith, small (open-entry c)) }
+mul-records c = record { fits = omega (arith, small (turn (open-entry (taken c)))) }
 
 array-set-from-records : tie.Need-array-set-from-records Inv-loop μ-loop
-array-set-from-records c = small (open-entry c)
+array-set-from-records c = small (turn (open-entry (taken c)))
 
 loop-less-2 : tie.Need-loop-less-2 Inv-loop μ-loop
-loop-less-2 c = search needs
+loop-less-2 c = omega (arith, turn (open-entry (taken c)) .loop-test .taken)
 
 loop-again-2 : tie.Need-loop-again-2 Inv-loop μ-loop
 loop-again-2 c =
-    let e = open-entry c in
+    let e = open-entry (taken c) in
     let a = turn e .before in
-    let o = ok (start a) in (
+    let s = start a in
+    let o = ok s in
+    let ceiling = clear-of (a .before) .before .before .before .ceiling-of .ensures in
+    let size = table-size s in
+    let i = getD (s .args .schedule .now) (a .loop .k) 0 in (
       omega (arith, turn e .loop-test .taken),
-      at-entry o (a .loop .inv .1) (turn e .loop-test .taken) refl (unfinished e) (o .log) (taken c .take-entry .ensures (a .loop .records) refl),
+      at-entry (s .args .flagged) o (a .loop .inv .1) (turn e .loop-test .taken) refl (unfinished e) (room-for a) (o .log)
+          ((λ j. afterEntry (sym ceiling j) (sym size j) (operationIn (widthOf (s .args .flagged)) (getD (s .args .operations .now) i 0)) i (standing a)) ∙ taken c .take-entry .ensures (a .loop .records) refl),
     )
 
 made-requires : tie.Need-made-requires Inv-loop μ-loop
 made-requires c κs = search needs
 
 same-length : tie.Need-same-length Inv-loop μ-loop
-same-length c = cells-long (ok (start (c .before .before))) (c .before .before .loop .inv .1)
+same-length c = let a = c .before .before in let s = start a in table-slices (s .args .flagged) (ok s) (a .loop .inv .1) (table-laid s) .0
 
 same-length-2 : tie.Need-same-length-2 Inv-loop μ-loop
-same-length-2 c =
-    let o = ok (start (c .before .before)) in
-    answers-long o (c .before .before .loop .inv .1) (omega (arith, cleared-long (c .before .before), o .answers)) ∙ cleared-long (c .before .before)
+same-length-2 c = let a = c .before .before in let s = start a in table-slices (s .args .flagged) (ok s) (a .loop .inv .1) (table-laid s) .1
 
 same-length-3 : tie.Need-same-length-3 Inv-loop μ-loop
-same-length-3 c = let o = ok (start (c .before .before)) in log-long o (c .before .before .loop .inv .1) (o .log)
+same-length-3 c =
+    let a = c .before .before in
+    let s = start a in
+    answers-slices (s .args .flagged) (ok s) (a .loop .inv .1) (room-for a) (answers-of s) (answers-laid s) (cleared-long (clear-of (a .before))) .0
+
+same-length-4 : tie.Need-same-length-4 Inv-loop μ-loop
+same-length-4 c =
+    let a = c .before .before in
+    let s = start a in
+    answers-slices (s .args .flagged) (ok s) (a .loop .inv .1) (room-for a) (answers-of s) (answers-laid s) (cleared-long (clear-of (a .before))) .1
+
+same-length-5 : tie.Need-same-length-5 Inv-loop μ-loop
+same-length-5 c = let a = c .before .before in let s = start a in log-long (s .args .flagged) (ok s) (a .loop .inv .1) (ok s .log)
 
 returns : tie.Need-returns Inv-loop μ-loop
 returns c =
     let end = c .before in
-    let at = end .before .loop in
-    at-end (ok (start (end .before))) (at .inv .1) (end .loop-test .left) _ (cleared (clear-of (end .before)))
-    ∙ (λ i. record { outcome = sym (c .made .ensures) i; cells = at .cells; answers = at .answers; log = at .log })
+    let a = end .before in
+    let at = a .loop in
+    let s = start a in
+    at-end (s .args .flagged) (ok s) (at .inv .1) (end .loop-test .left) (answers-of s) (cleared-is (clear-of (a .before)))
+    ∙ (λ i. record {
+      outcome = sym (c .made .ensures) i;
+      cells = wordsIn (s .args .flagged) (record { narrow = at .narrow; wide = at .wide });
+      answers = wordsIn (s .args .flagged) (record { narrow = at .answers32; wide = at .answers64 });
+      log = at .log;
+    })
 
 pub entries-spec : {M : Type 1} → statement M
 entries-spec =
@@ -200,15 +286,15 @@ entries-spec =
     (tie.spec
     Inv-loop
     μ-loop
-    slice-relend-prefix-clear
-    slice-aggregate-clear
-    clear-requires
+    add-c
+    ceiling-of-requires
+    clear-answers-requires
     cast-begin
     begin-requires
     loop-holds
     shared-slice-read-entry
     add-k
-    has-requires
+    is-finished-requires
     add-idle
     loop-less
     loop-again
@@ -226,4 +312,6 @@ entries-spec =
     same-length
     same-length-2
     same-length-3
+    same-length-4
+    same-length-5
     returns)

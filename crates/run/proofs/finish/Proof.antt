@@ -1,16 +1,32 @@
 -- `run::finish` meets its contract.
 -- Assumes nothing.
-use mathlib.Core.Path.{refl, ap}
+use mathlib.Core.Path.{ap}
 use lib.ListN.{set}
+use Rattle.run.proofs.Lent.{answer-is}
 use borrow.Author.Needs.{needs}
 use Rattle.run.proofs.finish.Statement.{statement}
 use Rattle.run.proofs.finish.Tie as tie
 
-mul-answers : tie.Need-mul-answers
-mul-answers c = search needs
+cast-low-8 : tie.Need-cast-low-8
+cast-low-8 c = search needs
 
-slice-write-answers : tie.Need-slice-write-answers
-slice-write-answers c = search needs
+low-8-requires : tie.Need-low-8-requires
+low-8-requires c κs = search needs
+
+cast-low-16 : tie.Need-cast-low-16
+cast-low-16 c = search needs
+
+low-16-requires : tie.Need-low-16-requires
+low-16-requires c κs = search needs
+
+answer-word-requires : tie.Need-answer-word-requires
+answer-word-requires c κs = search needs
+
+wide-answer-word-requires : tie.Need-wide-answer-word-requires
+wide-answer-word-requires c κs = search needs
+
+place-requires : tie.Need-place-requires
+place-requires c κs = search needs
 
 size-requires : tie.Need-size-requires
 size-requires c κs = search needs
@@ -27,20 +43,35 @@ same-length c = search needs
 same-length-2 : tie.Need-same-length-2
 same-length-2 c = search needs
 
+same-length-3 : tie.Need-same-length-3
+same-length-3 c = search needs
+
 returns : tie.Need-returns
 returns c =
-    let start = c .before .before .before .before in
-    (c .with .ensures, refl, ap (λ n. set (start .args .log .now) n (start .args .entry)) (c .before .size .ensures))
+    let placed = c .before .before .before .before .before .before in
+    let words = placed .before .before in
+    let start = words .before .before .before .before .before .before .before .before .before .before .before in (
+      c .with .ensures,
+      answer-is _ _ _ (words .before .before .before .before .before .before .low-8 .ensures) (words .before .low-16 .ensures) (words .answer-word .ensures)
+          (placed .before .wide-answer-word .ensures) (placed .place .ensures),
+      ap (λ n. set (start .args .log .now) n (start .args .entry)) (c .before .size .ensures),
+    )
 
 pub finish-spec : {M : Type 1} → statement M
 finish-spec =
     tie.close
     (tie.spec
-    mul-answers
-    slice-write-answers
+    cast-low-8
+    low-8-requires
+    cast-low-16
+    low-16-requires
+    answer-word-requires
+    wide-answer-word-requires
+    place-requires
     size-requires
     slice-write-log
     with-requires
     same-length
     same-length-2
+    same-length-3
     returns)

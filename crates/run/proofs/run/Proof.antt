@@ -1,23 +1,46 @@
 -- `run::run` meets its contract: a call is turned away, or it leaves what its entries come to.
 -- Assumes nothing.
-use mathlib.Core.Path.{_≡_, sym, ap, _∙_}
-use denote.Ref.{now}
-use borrow.Author.Needs.{needs}
+use mathlib.Core.Path.{_≡_, refl, sym, ap, _∙_}
 use Rattle.semantics.specs.declared.Refusal.{Refusal}
+use Rattle.semantics.specs.Narrow.{narrowWidth}
 use Rattle.semantics.specs.Run.{refusalOf, refusedResult}
+use Rattle.semantics.proofs.Narrow.{narrow-packing}
 use Rattle.semantics.proofs.WordsHold.{accepted, refused, demands-of}
+use borrow.Author.Needs.{needs}
 use Rattle.run.proofs.run.Statement.{statement}
 use Rattle.run.proofs.run.Tie as tie
 
+-- what the checks say, and the start of the function as they see it
+abbrev start : tie.After-validate → tie.Start
+start c = c .before .before .before .before .before .before .before
+
+abbrev judged : tie.Then1 → tie.After-validate
+judged c = c .before .before
+
+-- the entries as the end sees them, and the arm that they are taken in
+abbrev ran : tie.After-slice-known6 → tie.After-entries
+ran c = c .before .before .before .before .before .before .before .before
+
+abbrev taken-in : tie.After-entries → tie.Then1
+taken-in c = c .before .before .before .before .before .before
+
 -- a call that is not turned away
-number-0 : (c : tie.Then1) → let a = c .before .before .before .before .before .before .before .before .before .args in refusalOf (now (a .cells)) (now (a .operations)) (now (a .schedule)) (now (a .answers)) (now (a .log)) .number ≡ 0
-number-0 c = sym (ap (λ (r : Refusal). r .number) (c .before .before .validate .ensures)) ∙ c .if1 .taken
+number-0 : (c : tie.Then1)
+    → let a = start (judged c) .args in
+    refusalOf narrowWidth (a .cells .now) (a .operations .now) (a .schedule .now) (a .answers .now) (a .log .now) .number ≡ 0
+number-0 c = sym (ap (λ (r : Refusal). r .number) (judged c .validate .ensures)) ∙ c .if1 .taken
 
 validate-requires : tie.Need-validate-requires
 validate-requires c κs = search needs
 
+slice-aggregate-entries : tie.Need-slice-aggregate-entries
+slice-aggregate-entries c = search needs
+
+slice-aggregate-entries-2 : tie.Need-slice-aggregate-entries-2
+slice-aggregate-entries-2 c = search needs
+
 entries-requires : tie.Need-entries-requires
-entries-requires c κs = number-0 (c .before .before .before)
+entries-requires c κs = record { cells-alone = refl; answers-alone = refl; accepted = number-0 (c .before .before .before .before .before) }
 
 same-length : tie.Need-same-length
 same-length c = search needs
@@ -30,8 +53,7 @@ same-length-3 c = search needs
 
 returns : tie.Need-returns
 returns c =
-    let ran = c .before .before .before .before .before .before in
-    demands-of _ _ _ _ _ _ (accepted _ _ _ _ _ (number-0 (ran .before .before .before .before)) ∙ ran .entries .ensures)
+    demands-of narrow-packing _ _ _ _ _ _ (accepted narrowWidth _ _ _ _ _ (number-0 (taken-in (ran c))) ∙ ran c .entries .ensures)
 
 refused-requires : tie.Need-refused-requires
 refused-requires c κs = search needs
@@ -42,11 +64,11 @@ same-length-4 c = search needs
 returns-2 : tie.Need-returns-2
 unfolding refusedResult
 returns-2 c =
-    let judged = c .before .before .before in
-    let a = judged .before .before .before .before .before .before .before .args in
-    let is = judged .validate .ensures in
-    demands-of _ _ _ _ _ _
-    (refused _ _ _ _ _ (λ e. c .before .if1 .left (ap (λ (r : Refusal). r .number) is ∙ e))
+    let checked = c .before .before .before in
+    let a = start checked .args in
+    let is = checked .validate .ensures in
+    demands-of narrow-packing _ _ _ _ _ _
+    (refused narrowWidth _ _ _ _ _ (λ e. c .before .if1 .left (ap (λ (r : Refusal). r .number) is ∙ e))
     ∙ ap (λ (r : Refusal). refusedResult r (a .cells .now) (a .answers .now) (a .log .now)) (sym is)
     ∙ (λ i. record { outcome = sym (c .refused .ensures) i; cells = a .cells .now; answers = a .answers .now; log = a .log .now }))
 
@@ -55,6 +77,8 @@ run-spec =
     tie.close
     (tie.spec
     validate-requires
+    slice-aggregate-entries
+    slice-aggregate-entries-2
     entries-requires
     same-length
     same-length-2

@@ -1,65 +1,86 @@
--- `run::take_entry` meets its contract, event by event.
+-- `run::take_entry` meets its contract, turn by turn.
 -- Assumes nothing.
-use mathlib.Core.Path.{_≡_, subst}
+use mathlib.Core.Path.{_≡_, sym, ap, subst, _∙_}
 use Prim.Native.Nat.{ℕ}
 use mathlib.Core.List.{List, [], _∷_}
+use native.Mathlib.Omega.{arith}
 use types.Run.{OneOf, miss}
 use denote.Enum.Declared.{tagOf}
+use Rattle.turn.specs.declared.Turn.{Turn}
+use Rattle.turn.proofs.Turn as turn
+use Rattle.semantics.specs.Widths.{widthOf}
+use Rattle.rule.specs.declared.Operation.{Operation}
+use Rattle.step.specs.declared.Record.{Record}
+use Rattle.step.specs.Record.{stepTaken}
+use Rattle.run.specs.Entry.{Standing, isPass}
+use Rattle.run.specs.Lent.{operationIn}
+use Rattle.run.proofs.Entry.{leaves-pass, leaves-finished, leaves-lost, leaves-other}
 use borrow.Author.Needs.{needs}
-use Rattle.step.specs.declared.Progress.{Progress}
-use Rattle.step.specs.declared.Event.{Event}
-use Rattle.step.proofs.Event as event
-use Rattle.run.specs.Entry.{Standing}
-use Rattle.run.proofs.Entry.{leaves-finished, leaves-lost, leaves-other}
 use Rattle.run.proofs.take_entry.Statement.{statement}
 use Rattle.run.proofs.take_entry.Tie as tie
 
--- the step as every arm sees it, the start of the function, and where the run stands there, whatever its records are
-abbrev step-of : tie.After-next → tie.After-take-step
-step-of c = c .before .before .before
+-- the start of the function, as the test for a pass sees it, and where the run stands there, whatever its records are
+abbrev start : tie.After-is-pass → tie.Start
+start c = c .before .before .before .before .before .before .before .before .before .before .before
 
-abbrev start : tie.After-next → tie.Start
-start c = step-of c .before .before .before .before .before
-
-abbrev standing : tie.After-next → List Progress → Standing
+abbrev standing : tie.After-is-pass → List Record → Standing
 standing c records =
     let a = start c .args in
-    record { cells = a .cells .now; records = records; answers = a .answers .now; log = a .log .now; finished = a .finished; lost = a .lost }
+    record {
+      table = record { narrow = a .narrow .now; wide = a .wide .now };
+      records = records;
+      answers = record { narrow = a .answers32 .now; wide = a .answers64 .now };
+      log = a .log .now;
+      finished = a .finished;
+      lost = a .lost;
+    }
 
--- the arm of an operation that finishes, as its return sees it
-abbrev finished : tie.After-leave → tie.After-finish
-finished c = c .before .before .before .before .before
+-- the step as every arm sees it, the store before it, and the test before both
+abbrev stored : tie.After-slice-known7 → tie.After-store
+stored c = c .before .before .before .before
 
-abbrev told-finished : tie.After-leave → tie.After-enum-told
-told-finished c = finished c .before .before .before
+abbrev step-of : tie.After-slice-known7 → tie.After-take-step
+step-of c = stored c .before .before .before .before .before
 
--- an event whose tag is among the keys of the last arm is none of another tag
-is-none : (ks : List ℕ) {x y : Event} → OneOf ks (tagOf event.the-type y) → (OneOf ks (tagOf event.the-type x) → ⊥) → y ≡ x → ⊥
-is-none ks among other q = other (subst (λ (e : Event). OneOf ks (tagOf event.the-type e)) q among)
+abbrev loaded : tie.After-slice-known7 → tie.After-load
+loaded c = step-of c .before .before
 
-take-step-requires : tie.Need-take-step-requires
-take-step-requires c κs = search needs
+abbrev judged : tie.After-slice-known7 → tie.After-is-pass
+judged c = loaded c .before .before .before .before
 
-enum-told : tie.Need-enum-told
-enum-told c = search needs
+stepped : (c : tie.After-slice-known7)
+    → let a = start (judged c) .args in
+    step-of c .take-step .result ≡ stepTaken (a .ceiling) (a .c) (operationIn (widthOf (a .flagged)) (a .w)) (a .progress) (loaded c .load .result)
+stepped c =
+    let a = start (judged c) .args in
+    step-of c .take-step .ensures
+    ∙ ap (λ (o : Operation). stepTaken (a .ceiling) (a .c) o (a .progress) (loaded c .load .result)) (step-of c .before .operation-of .ensures)
 
-finish-requires : tie.Need-finish-requires
-finish-requires c κs = search needs
+-- the arm of an operation that finishes, as its return sees it, and its turn
+abbrev finished : tie.After-slice-known10 → tie.After-finish
+finished c = c .before .before .before .before .before .before
 
-leave-requires : tie.Need-leave-requires
-leave-requires c κs = search needs
+abbrev known-turn : tie.After-slice-known10 → tie.After-turn
+known-turn c = finished c .before .before .before .before .before
 
-enum-told-2 : tie.Need-enum-told-2
-enum-told-2 c = search needs
+-- a turn whose tag is among the keys of the last arm is none of another tag
+is-none : (ks : List ℕ) {x y : Turn} → OneOf ks (tagOf turn.the-type y) → (OneOf ks (tagOf turn.the-type x) → ⊥) → y ≡ x → ⊥
+is-none ks among other q = other (subst (λ (e : Turn). OneOf ks (tagOf turn.the-type e)) q among)
 
-add-leave : tie.Need-add-leave
-add-leave c = search needs
+kind-of-requires : tie.Need-kind-of-requires
+kind-of-requires c κs = search needs
 
-leave-requires-2 : tie.Need-leave-requires-2
-leave-requires-2 c κs = search needs
+key-of-requires : tie.Need-key-of-requires
+key-of-requires c κs = search needs
 
-leave-requires-3 : tie.Need-leave-requires-3
-leave-requires-3 c κs = search needs
+load-key-requires : tie.Need-load-key-requires
+load-key-requires c κs = search needs
+
+is-pass-requires : tie.Need-is-pass-requires
+is-pass-requires c κs = search needs
+
+passed-on-requires : tie.Need-passed-on-requires
+passed-on-requires c κs = search needs
 
 same-length : tie.Need-same-length
 same-length c = search needs
@@ -67,53 +88,121 @@ same-length c = search needs
 same-length-2 : tie.Need-same-length-2
 same-length-2 c = search needs
 
-same-length-3 : tie.Need-same-length-3
-same-length-3 c = search needs
-
 returns : tie.Need-returns
 returns c = λ records at.
-    let next = told-finished c .before .before in
-    let stepped = step-of next .take-step .ensures in
-    let done = finished c .finish .ensures in
-    leaves-finished _ _ (standing next records) at (stepped .0) (stepped .1) (told-finished c .enum-told .given .1) (done .1) (done .2) (done .0) (c .leave .ensures)
+    let test = c .before .before in
+    let keys = test .before in
+    let read = keys .before .before .before in
+    let asked = start test .pre in
+    let a = start test .args in
+    let kind = read .before .kind-of .ensures in
+    let own = read .key-of .ensures in
+    let key = keys .load-key .ensures in
+    leaves-pass (a .ceiling) (a .c) (operationIn (widthOf (a .flagged)) (a .w)) (a .entry) (standing test records) at (asked .1) (asked .2)
+    ((λ i. isPass (sym kind i) (sym own i) (sym key i) (a .c) (a .progress)) ∙ sym (test .is-pass .ensures) ∙ c .before .if1 .taken)
+    (c .passed-on .ensures)
+
+load-requires : tie.Need-load-requires
+load-requires c κs = search needs
+
+operation-of-requires : tie.Need-operation-of-requires
+operation-of-requires c κs = search needs
+
+take-step-requires : tie.Need-take-step-requires
+take-step-requires c κs = search needs
+
+store-requires : tie.Need-store-requires
+store-requires c κs = start (c .before .before .before .before .before .before .before .before .before .before) .pre .0
+
+enum-known-turn : tie.Need-enum-known-turn
+enum-known-turn c = search needs
+
+finish-requires : tie.Need-finish-requires
+finish-requires c κs = let asked = start (judged (c .before .before .before .before .before .before)) .pre in (asked .3, asked .4)
+
+enum-told : tie.Need-enum-told
+enum-told c = search needs
+
+add-t48 : tie.Need-add-t48
+add-t48 c = record { fits = omega (arith, start (judged (c .before .before)) .pre .5) }
+
+same-length-3 : tie.Need-same-length-3
+same-length-3 c = search needs
 
 same-length-4 : tie.Need-same-length-4
 same-length-4 c = search needs
 
-returns-2 : tie.Need-returns-2
-returns-2 c = λ records at.
-    let next = c .before .before .before in
-    let stepped = step-of next .take-step .ensures in
-    leaves-lost _ _ (standing next records) at (stepped .0) (stepped .1) (c .before .enum-told2 .given .1) (c .leave2 .ensures)
-
 same-length-5 : tie.Need-same-length-5
 same-length-5 c = search needs
 
+same-length-6 : tie.Need-same-length-6
+same-length-6 c = search needs
+
+same-length-7 : tie.Need-same-length-7
+same-length-7 c = search needs
+
+returns-2 : tie.Need-returns-2
+returns-2 c = λ records at.
+    let arm = known-turn c .before .before in
+    let done = finished c .finish .ensures in
+    leaves-finished _ _ _ _ (standing (judged arm) records) at (loaded arm .load .ensures) (stepped arm) (stored arm .store .ensures)
+    (known-turn c .turn .given .1) (done .1) (done .2) (done .0)
+
+same-length-8 : tie.Need-same-length-8
+same-length-8 c = search needs
+
+same-length-9 : tie.Need-same-length-9
+same-length-9 c = search needs
+
 returns-3 : tie.Need-returns-3
 returns-3 c = λ records at.
+    let arm = c .before .before in
+    leaves-lost _ _ _ _ (standing (judged arm) records) at (loaded arm .load .ensures) (stepped arm) (stored arm .store .ensures)
+    (c .enum-told .given .1)
+
+same-length-10 : tie.Need-same-length-10
+same-length-10 c = search needs
+
+same-length-11 : tie.Need-same-length-11
+same-length-11 c = search needs
+
+returns-4 : tie.Need-returns-4
+returns-4 c = λ records at.
     let rest : List ℕ = 0 ∷ 1 ∷ 4 ∷ [] in
-    let next = c .before .before in
-    let stepped = step-of next .take-step .ensures in
-    let keys = c .before .match .keys3 in
-    leaves-other _ _ (standing next records) at (stepped .0) (stepped .1) (is-none rest keys (miss rest 3 tt)) (is-none rest keys (miss rest 2 tt)) (c .leave3 .ensures)
+    let arm = c .before in
+    let keys = c .match .keys3 in
+    leaves-other _ _ _ _ (standing (judged arm) records) at (loaded arm .load .ensures) (stepped arm) (stored arm .store .ensures)
+    (λ a. is-none rest keys (miss rest 3 tt)) (is-none rest keys (miss rest 2 tt))
 
 pub take-entry-spec : {M : Type 1} → statement M
 take-entry-spec =
     tie.close
     (tie.spec
-    take-step-requires
-    enum-told
-    finish-requires
-    leave-requires
-    enum-told-2
-    add-leave
-    leave-requires-2
-    leave-requires-3
+    kind-of-requires
+    key-of-requires
+    load-key-requires
+    is-pass-requires
+    passed-on-requires
     same-length
     same-length-2
-    same-length-3
     returns
+    load-requires
+    operation-of-requires
+    take-step-requires
+    store-requires
+    enum-known-turn
+    finish-requires
+    enum-told
+    add-t48
+    same-length-3
     same-length-4
-    returns-2
     same-length-5
-    returns-3)
+    same-length-6
+    same-length-7
+    returns-2
+    same-length-8
+    same-length-9
+    returns-3
+    same-length-10
+    same-length-11
+    returns-4)

@@ -1,0 +1,51 @@
+-- `run::store` meets its contract.
+-- Assumes nothing.
+use Rattle.run.proofs.Lent.{stored-is, stored-none}
+use borrow.Author.Needs.{needs}
+use Rattle.run.proofs.store.Statement.{statement}
+use Rattle.run.proofs.store.Tie as tie
+
+cast-low-16 : tie.Need-cast-low-16
+cast-low-16 c = search needs
+
+low-16-requires : tie.Need-low-16-requires
+low-16-requires c κs = search needs
+
+cell-word-requires : tie.Need-cell-word-requires
+cell-word-requires c κs = search needs
+
+wide-cell-word-requires : tie.Need-wide-cell-word-requires
+wide-cell-word-requires c κs = search needs
+
+place-requires : tie.Need-place-requires
+place-requires c κs = search needs
+
+same-length : tie.Need-same-length
+same-length c = search needs
+
+same-length-2 : tie.Need-same-length-2
+same-length-2 c = search needs
+
+returns : tie.Need-returns
+returns c =
+    let placed = c .before .before .before .before in
+    let words = placed .before .before in
+    stored-is _ _ _ (c .before .before .before .before .before .before .before .before .before .before .before .before .before .if1 .taken)
+    (words .before .low-16 .ensures) (words .cell-word .ensures) (placed .before .wide-cell-word .ensures) (placed .place .ensures)
+
+returns-2 : tie.Need-returns-2
+returns-2 c = stored-none _ _ _ (c .if1 .left)
+
+pub store-spec : {M : Type 1} → statement M
+store-spec =
+    tie.close
+    (tie.spec
+    cast-low-16
+    low-16-requires
+    cell-word-requires
+    wide-cell-word-requires
+    place-requires
+    same-length
+    same-length-2
+    returns
+    returns-2)
