@@ -5,7 +5,7 @@ use mathlib.Core.List.{List}
 use Rattle.semantics.specs.declared.Mark.{Mark}
 use Rattle.semantics.specs.declared.Position.{Position}
 use Rattle.semantics.specs.Refusals.{firstMet}
-use Rattle.semantics.specs.RunFile.{conditionsOf}
+use Rattle.semantics.specs.RunFile.{Layout, conditionsOf}
 
 -- what is carried to a record, where the bytes from it on are all there is
 abbrev pub atFront : Position → Position
@@ -20,5 +20,5 @@ atFront p =
     }
 
 -- the number of the first condition that turns a record with a whole mark away, in table order, 0 for none
-unfoldable pub faultOf : List ℕ → Position → Mark → ℕ
-faultOf rest p mark = firstMet (conditionsOf rest (atFront p) mark) .number
+unfoldable pub faultOf : Layout → List ℕ → Position → Mark → ℕ
+faultOf L rest p mark = firstMet (conditionsOf L rest (atFront p) mark) .number

@@ -1,26 +1,39 @@
 // Why a record with a known mark is turned away (document 01, "The run file"): the number of the first
-// condition that it meets, in table order, 0 for none, by a function for each mark. What is read is
+// condition that it meets, in table order, 0 for none, by a function for each mark. The marks that hold
+// a total or an amount ask which width is read. What is read is
 // the rest of the file, from the record on, at offsets that are known here, so that one test of its
 // length serves them all. Every function takes every rest and every position.
 ghost use mathlib.Core.Path.{_≡_};
-ghost use mathlib.Core.Bool.{_||_};
-ghost use Prim.Native.Nat.{_+_};
+ghost use mathlib.Core.Bool.{not, _||_};
+ghost use Prim.Native.Nat.{_+_, _^_};
 ghost use lib.Dec.{eqb, leb, ltb};
+ghost use Rattle.semantics.specs.Words.{sizeAllowed};
 ghost use Rattle.semantics.specs.Refusals.{mostEntries};
+ghost use Rattle.semantics.specs.RunFile.{Layout, layoutOf};
 ghost use Rattle.faults.specs.Faults.{faultOf};
 use mark::byte_at;
+use mark::is_total_wrong;
 use mark::may_follow;
 use mark::pair_at;
+use mark::total_size;
+use room::size_allowed;
 use semantics::MOST_ENTRIES;
 use semantics::MOST_OPERATIONS;
 use semantics::Mark;
 use semantics::Position;
 
-// 11, of a TB record: its exponent is not one of 3 to 12.
+// 11, of a TB record: no table may have 2^k cells. A k past 63 is judged by itself, since no number of
+// cells has so many bits.
 fn is_exponent_wrong(k: u8) -> bool
-    ensures { λ r. ⌜ r ≡ (ltb k 3 || ltb 12 k) ⌝ }
+    ensures { λ r. ⌜ r ≡ not (sizeAllowed (2 ^ k)) ⌝ }
 {
-    k < 3 || 12 < k
+    if 63 < k {
+        return true;
+    }
+    if size_allowed(1 << (k as usize)) {
+        return false;
+    }
+    true
 }
 
 // 11, of a CL record: its cell is not above the cells of the records before it, or not in the table,
@@ -49,9 +62,10 @@ fn is_past_most(entries: usize, count: u8) -> bool
     MOST_ENTRIES - entries < (count as usize)
 }
 
-// Order, size, body and limit of each mark, in table order.
-pub fn table_fault(rest: &[u8], position: Position) -> u32
-    ensures { λ r. ⌜ r ≡ faultOf (now (rest .entry)) position Mark.Table ⌝ }
+// Order, size, body and limit of each mark, in table order. Where a record's size hangs on the width, the
+// smaller one is tested first, so that what is read of either width needs no test again.
+pub fn table_fault(rest: &[u8], flagged: bool, position: Position) -> u32
+    ensures { λ r. ⌜ r ≡ faultOf (layoutOf flagged) (now (rest .entry)) position Mark.Table ⌝ }
 {
     if may_follow(position.part, 1) {
         if rest.len() < 3 {
@@ -65,12 +79,18 @@ pub fn table_fault(rest: &[u8], position: Position) -> u32
     9
 }
 
-pub fn cell_fault(rest: &[u8], position: Position) -> u32
-    ensures { λ r. ⌜ r ≡ faultOf (now (rest .entry)) position Mark.Cell ⌝ }
+pub fn cell_fault(rest: &[u8], flagged: bool, position: Position) -> u32
+    ensures { λ r. ⌜ r ≡ faultOf (layoutOf flagged) (now (rest .entry)) position Mark.Cell ⌝ }
 {
     if may_follow(position.part, 2) {
         if rest.len() < 8 {
             return 10;
+        }
+        if rest.len() < total_size(flagged) + 6 {
+            return 10;
+        }
+        if is_total_wrong(rest, 6, flagged) {
+            return 11;
         }
         if is_cell_wrong(
             pair_at(rest, 2),
@@ -85,12 +105,18 @@ pub fn cell_fault(rest: &[u8], position: Position) -> u32
     9
 }
 
-pub fn operation_fault(rest: &[u8], position: Position) -> u32
-    ensures { λ r. ⌜ r ≡ faultOf (now (rest .entry)) position Mark.Operation ⌝ }
+pub fn operation_fault(rest: &[u8], flagged: bool, position: Position) -> u32
+    ensures { λ r. ⌜ r ≡ faultOf (layoutOf flagged) (now (rest .entry)) position Mark.Operation ⌝ }
 {
     if may_follow(position.part, 3) {
         if rest.len() < 7 {
             return 10;
+        }
+        if rest.len() < total_size(flagged) + 5 {
+            return 10;
+        }
+        if is_total_wrong(rest, 5, flagged) {
+            return 11;
         }
         if MOST_OPERATIONS <= position.operations {
             return 2;
@@ -100,8 +126,8 @@ pub fn operation_fault(rest: &[u8], position: Position) -> u32
     9
 }
 
-pub fn schedule_fault(rest: &[u8], position: Position) -> u32
-    ensures { λ r. ⌜ r ≡ faultOf (now (rest .entry)) position Mark.Schedule ⌝ }
+pub fn schedule_fault(rest: &[u8], flagged: bool, position: Position) -> u32
+    ensures { λ r. ⌜ r ≡ faultOf (layoutOf flagged) (now (rest .entry)) position Mark.Schedule ⌝ }
 {
     if may_follow(position.part, 4) {
         let count = byte_at(rest, 2);

@@ -1,8 +1,10 @@
 // What stands at an offset of a run file (document 01, "The run file"): a byte, a number of two bytes,
-// or the mark of a record; and the order that the marks come in. Every function takes every offset.
+// the mark of a record, or a total; and the order that the marks come in. Files of two widths differ in
+// the letters of the table's mark and in the bytes of a total: flagged says which are read. Every
+// function takes every offset.
 ghost use mathlib.Core.Path.{_≡_};
 ghost use Prim.Native.Nat.{_+_, _*_, _<_};
-ghost use Rattle.semantics.specs.RunFile.{byteAt, pairAt, hasMark, markAt, mayFollow};
+ghost use Rattle.semantics.specs.RunFile.{Layout, layoutOf, byteAt, pairAt, hasMark, markAt, mayFollow};
 use semantics::Mark;
 
 // The byte at an offset, and the one after it; 0 past the end.
@@ -39,17 +41,28 @@ pub fn pair_at(file: &[u8], at: usize) -> u16
 }
 
 // Whether a mark of two letters stands at an offset. Both letters are compared as one number, so that
-// the four tests of mark_at become one choice.
+// the four tests of mark_at become one choice; the second letter is its high byte, as two bytes lie in
+// a word of the machine that this is compiled for.
 fn has_mark(file: &[u8], at: usize, mark: &[u8; 2]) -> bool
     ensures { λ r. ⌜ r ≡ hasMark (now (file .entry)) at (now (mark .entry)) ⌝ }
 {
-    pair_at(file, at) == pair(mark[0], mark[1])
+    pair(byte_after(file, at), byte_at(file, at)) == pair(mark[1], mark[0])
 }
 
-pub fn mark_at(file: &[u8], at: usize) -> Mark
-    ensures { λ r. ⌜ r ≡ markAt (now (file .entry)) at ⌝ }
+// The table's mark is the one that tells the widths apart.
+fn has_table(file: &[u8], at: usize, flagged: bool) -> bool
+    ensures { λ r. ⌜ r ≡ hasMark (now (file .entry)) at (layoutOf flagged .tableLetters) ⌝ }
 {
-    if has_mark(file, at, b"TB") {
+    if flagged {
+        return has_mark(file, at, b"TW");
+    }
+    has_mark(file, at, b"TB")
+}
+
+pub fn mark_at(file: &[u8], at: usize, flagged: bool) -> Mark
+    ensures { λ r. ⌜ r ≡ markAt (layoutOf flagged) (now (file .entry)) at ⌝ }
+{
+    if has_table(file, at, flagged) {
         return Mark::Table;
     }
     if has_mark(file, at, b"CL") {
@@ -74,6 +87,26 @@ pub fn may_follow(before: usize, part: usize) -> bool
     }
     if 1 < part {
         return before <= part;
+    }
+    false
+}
+
+// How many bytes a total or an amount has, and whether those at an offset are none: of the widths only
+// the wide one turns bytes away, a flag other than 0 and 1.
+pub fn total_size(flagged: bool) -> usize
+    ensures { λ r. ⌜ r ≡ layoutOf flagged .totalSize ⌝ }
+{
+    if flagged {
+        return 5;
+    }
+    2
+}
+
+pub fn is_total_wrong(file: &[u8], at: usize, flagged: bool) -> bool
+    ensures { λ r. ⌜ r ≡ layoutOf flagged .isTotalWrong (now (file .entry)) at ⌝ }
+{
+    if flagged {
+        return 1 < byte_at(file, at);
     }
     false
 }

@@ -7,7 +7,6 @@ use mathlib.Core.List.{List, [], _∷_, _++_}
 use native.Mathlib.Omega.{arith}
 use lib.Dec.{eqb}
 use lib.ListN.{length, set, take, drop, replicate, length-replicate, length-set, length-append, length-drop}
-use lib.Pow.{pow-mono}
 use lib.Seq.{length-take-le}
 use borrow.Author.Tests.{eqb-true}
 use Rattle.semantics.specs.declared.Mark.{Mark}
@@ -15,10 +14,10 @@ use Rattle.semantics.specs.declared.Mark.the-variants.{Table, Cell, Operation, 
 use Rattle.semantics.specs.declared.Position.{Position}
 use Rattle.semantics.specs.Run.{over}
 use Rattle.semantics.specs.Records.{faultAt, records}
-use Rattle.semantics.specs.RunFile.{Contents, byteAt, pairAt, cellWordAt, operationWordAt, entriesAt, markAt, partOf, mayFollow, sizeOf, past, nextOf, start, runFile, loaded, load, contents, acceptedReading}
+use Rattle.semantics.specs.RunFile.{Layout, row, Contents, byteAt, pairAt, cellWordAt, operationWordAt, entriesAt, markAt, mayFollow, past, nextOf, start, runFile, load, contents, acceptedReading}
 use Rattle.semantics.proofs.Over.{over-none, over-length, over-set, over-next, over-more}
 use Rattle.semantics.proofs.Records.{Folding, judgement, scan-less, fold-starts, fold-sound, fold-goes-on, fold-ends}
-use Rattle.record.proofs.Judged.{Sound, sound, scannable, exponent, inside, few, short}
+use Rattle.runfile.proofs.Judged.{Sound, sound, scannable, is-known, size-small, inside, few, short}
 use Rattle.io.specs.Counts.{Counts}
 use Rattle.runfile.specs.Stored.{stored}
 
@@ -79,9 +78,9 @@ module _ {s₀ : Contents} {p : Position} {h s : Contents} (room : Room s₀) (k
   )
 
   -- one record more
-  holds-next : (file : List ℕ) (m : Mark) → Sound file p m → Holds s₀ (past file p m) (loaded file (p .at) m h) (stored file p m s)
-  unfolding past loaded stored partOf sizeOf
-  holds-next file Table ok =
+  holds-next : (L : Layout) (file : List ℕ) (m : Mark) → Sound L file p m → Holds s₀ (past L file p m) (row L m .added file (p .at) h) (stored L file p m s)
+  unfolding past stored
+  holds-next L file Table ok =
       let n = 2 ^ byteAt file (p .at + 2) in
       let zeros : List ℕ = replicate n 0 in
       let none = k .fresh (first (p .part) (ok .follows)) in
@@ -91,12 +90,12 @@ module _ {s₀ : Contents} {p : Position} {h s : Contents} (room : Room s₀) (k
         cells = length-replicate {A = ℕ} n 0;
         operations = k .operations;
         entries = k .entries;
-        small = record { cells = pow-mono (exponent ok refl .1); operations = k .small .operations; entries = k .small .entries };
+        small = record { cells = size-small ok refl; operations = k .small .operations; entries = k .small .entries };
         fresh = λ e. absurd (omega (arith, e));
       }
-  holds-next file Cell ok =
+  holds-next L file Cell ok =
       let n = pairAt file (p .at + 2) in
-      let w = cellWordAt file (p .at) in
+      let w = cellWordAt L file (p .at) in
       let cells = ap (λ (t : Contents). set (t .cells) n w) (k .is) ∙ over-set (h .cells) (s₀ .cells) n w (omega (arith, inside ok refl, k .cells)) in
       record {
         is = λ i. record { cells = cells i; operations = k .is i .operations; schedule = k .is i .schedule };
@@ -106,8 +105,8 @@ module _ {s₀ : Contents} {p : Position} {h s : Contents} (room : Room s₀) (k
         small = k .small;
         fresh = λ e. absurd (omega (arith, e));
       }
-  holds-next file Operation ok =
-      let w = operationWordAt file (p .at) in
+  holds-next L file Operation ok =
+      let w = operationWordAt L file (p .at) in
       let operations = ap (λ (t : Contents). set (t .operations) (p .operations) w) (k .is)
       ∙ over-next (h .operations) (s₀ .operations) (p .operations) w (k .operations) (omega (arith, few ok refl, room .1)) in
       record {
@@ -118,7 +117,7 @@ module _ {s₀ : Contents} {p : Position} {h s : Contents} (room : Room s₀) (k
         small = record { cells = k .small .cells; operations = omega (arith, few ok refl); entries = k .small .entries };
         fresh = λ e. absurd (omega (arith, e));
       }
-  holds-next file Schedule ok =
+  holds-next L file Schedule ok =
       let n = byteAt file (p .at + 2) in
       let bytes = entriesAt file (p .at) in
       let schedule = ap (λ (t : Contents). take (p .entries) (t .schedule) ++ over bytes (drop (p .entries) (t .schedule))) (k .is)
@@ -132,21 +131,21 @@ module _ {s₀ : Contents} {p : Position} {h s : Contents} (room : Room s₀) (k
         small = record { cells = k .small .cells; operations = k .small .operations; entries = short ok refl };
         fresh = λ e. absurd (omega (arith, e));
       }
-  holds-next file Unknown ok = k
+  holds-next L file Unknown ok = absurd (is-known ok refl)
 
 -- filling has come to the record at p
-pub record Filling (file : List ℕ) (s₀ : Contents) (p : Position) (s : Contents) : Type 0 where
+pub record Filling (L : Layout) (file : List ℕ) (s₀ : Contents) (p : Position) (s : Contents) : Type 0 where
   pub so-far : Contents
-  pub folding : Folding runFile file (load file) (judgement runFile file (records runFile file start)) (contents file) p so-far
+  pub folding : Folding (runFile L) file (load L file) (judgement (runFile L) file (records (runFile L) file start)) (contents L file) p so-far
   pub holds : Holds s₀ p so-far s
 
-pub filling-starts : (file : List ℕ) (s₀ : Contents) {p : Position} → p ≡ start → Filling file s₀ p s₀
+pub filling-starts : (L : Layout) (file : List ℕ) (s₀ : Contents) {p : Position} → p ≡ start → Filling L file s₀ p s₀
 unfolding contents
-filling-starts file s₀ {p} e =
+filling-starts L file s₀ {p} e =
     let nothing : Contents = record { cells = []; operations = []; schedule = [] } in
     record {
       so-far = nothing;
-      folding = fold-starts runFile file (load file) nothing start e;
+      folding = fold-starts (runFile L) file (load L file) nothing start e;
       holds =
           subst (λ q. Holds s₀ q nothing s₀) (sym e)
           (record {
@@ -159,33 +158,33 @@ filling-starts file s₀ {p} e =
           });
     }
 
-module _ {file : List ℕ} {s₀ : Contents} {p : Position} {s : Contents} (f : Filling file s₀ p s)
-    (accepted : judgement runFile file (records runFile file start) .number ≡ 0) where
-  pub filling-sound : faultAt runFile file p ≡ 0
+module _ {L : Layout} {file : List ℕ} {s₀ : Contents} {p : Position} {s : Contents} (f : Filling L file s₀ p s)
+    (accepted : judgement (runFile L) file (records (runFile L) file start) .number ≡ 0) where
+  pub filling-sound : faultAt (runFile L) file p ≡ 0
   filling-sound = fold-sound (f .folding) accepted
 
-  module _ (room : Room s₀) {q : Position} (past : q ≡ nextOf file p) where
+  module _ (room : Room s₀) {q : Position} (past : q ≡ nextOf L file p) where
     pub filling-less : length file - q .at < length file - p .at
-    filling-less = scan-less (scannable file) filling-sound past
+    filling-less = scan-less (scannable L file) filling-sound past
 
-    module _ {s′ : Contents} (stores : stored file p (markAt file (p .at)) s ≡ s′) where
-      pub turned : Holds s₀ q (load file (f .so-far) p) s′
+    module _ {s′ : Contents} (stores : stored L file p (markAt L file (p .at)) s ≡ s′) where
+      pub turned : Holds s₀ q (load L file (f .so-far) p) s′
       unfolding load nextOf
       turned =
-          subst (Holds s₀ q (load file (f .so-far) p)) stores
-          (subst (λ n. Holds s₀ n (load file (f .so-far) p) (stored file p (markAt file (p .at)) s)) (sym past)
-          (holds-next room (f .holds) file (markAt file (p .at)) (sound file p refl filling-sound)))
+          subst (Holds s₀ q (load L file (f .so-far) p)) stores
+          (subst (λ n. Holds s₀ n (load L file (f .so-far) p) (stored L file p (markAt L file (p .at)) s)) (sym past)
+          (holds-next room (f .holds) L file (markAt L file (p .at)) (sound L file p refl filling-sound)))
 
-      pub filling-again : q .at < length file → Filling file s₀ q s′
+      pub filling-again : q .at < length file → Filling L file s₀ q s′
       filling-again b =
           record {
-            so-far = load file (f .so-far) p;
-            folding = fold-goes-on (scannable file) filling-sound past (f .folding) b;
+            so-far = load L file (f .so-far) p;
+            folding = fold-goes-on (scannable L file) filling-sound past (f .folding) b;
             holds = turned;
           }
 
       pub filling-ends : length file ≤ q .at
-          → acceptedReading (contents file) (s₀ .cells) (s₀ .operations) (s₀ .schedule)
+          → acceptedReading (contents L file) (s₀ .cells) (s₀ .operations) (s₀ .schedule)
           ≡ record {
             loaded = record { number = 0; place = 0; cells = q .size; operations = q .operations; entries = q .entries };
             cells = s′ .cells;
@@ -195,7 +194,7 @@ module _ {file : List ℕ} {s₀ : Contents} {p : Position} {s : Contents} (f : 
       unfolding acceptedReading
       filling-ends b =
           let end = turned in
-          ap (λ h. acceptedReading h (s₀ .cells) (s₀ .operations) (s₀ .schedule)) (fold-ends (scannable file) filling-sound past (f .folding) b)
+          ap (λ h. acceptedReading h (s₀ .cells) (s₀ .operations) (s₀ .schedule)) (fold-ends (scannable L file) filling-sound past (f .folding) b)
           ∙ (λ i. record {
             loaded = record { number = 0; place = 0; cells = end .cells i; operations = end .operations i; entries = end .entries i };
             cells = sym (end .is) i .cells;

@@ -1,3 +1,4 @@
+pub mod Judged
 pub mod Refused
 pub mod Onward
 pub mod Stores

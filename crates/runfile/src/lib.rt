@@ -1,120 +1,139 @@
 // The reader of run files (document 01, "The run file" and "Where a call is turned away"). A file is
 // judged whole before anything is written, so that a fault in its last record leaves every slice as
-// it was; the second pass judges nothing, and both go from record to record by the same function.
+// it was; the second pass judges nothing, and both go from record to record by the same function. The
+// cells are lent as two slices, of which one is empty: what is below load serves files of either
+// width, and flagged says which, as it does in the scan.
 ghost use mathlib.Core.Path.{_≡_};
-ghost use Prim.Native.Nat.{_+_, _≤_};
-ghost use lib.ListN.{length};
+ghost use mathlib.Core.Bool.{not};
+ghost use Prim.Native.Nat.{_+_, _<_, _≤_};
+ghost use lib.ListN.{length, set, replicate};
 ghost use Rattle.io.specs.Counts.{Counts};
-ghost use Rattle.semantics.specs.Refusals.{firstMet};
-ghost use Rattle.semantics.specs.Records.{faultAt, records, recordConditions};
 ghost use Rattle.semantics.specs.Run.{over};
-ghost use Rattle.semantics.specs.RunFile.{markAt, cellWordAt, operationWordAt, nextOf, start, runFile, readerRefusal, contents, acceptedReading, reading};
-ghost use Rattle.runfile.specs.Stored.{stored, Storable};
+ghost use Rattle.semantics.specs.RunFile.{Layout, layoutOf, narrowFile, wideFile, flaggedAt, markAt, cellWordAt, operationWordAt, readerRefusal, contents, acceptedReading, reading};
+ghost use Rattle.runfile.specs.Stored.{lentCells, Rewritten, stored, Storable};
 use clear::clear;
+use clear::clear_wide;
 use mark::byte_at;
-use mark::mark_at;
 use mark::pair_at;
 use operation::operation_word;
-use record::fault_at;
-use record::start;
+use scan::file_refusal;
+use scan::mark_of;
+use scan::past;
+use scan::start;
 use semantics::Loaded;
-use semantics::MOST_BYTES;
 use semantics::MOST_CELLS;
 use semantics::MOST_ENTRIES;
 use semantics::MOST_OPERATIONS;
 use semantics::Mark;
 use semantics::Position;
 use semantics::Refusal;
+use semantics::Total;
+use wide::wide_cell_word;
+use wide::wide_operation_word;
 use word::cell_word;
 
-// What stands in a record that is whole: its mark, the word of the cell that a CL record names, and of
-// the operation that an OP record holds. What is read is lent at its known size, so that no offset is
-// tested again.
-fn mark_of(file: &[u8], at: usize) -> Mark
-    requires { ⌜ at + 2 ≤ length (now file) ⌝ }
-    ensures { λ r. ⌜ r ≡ markAt (now (file .entry)) at ⌝ }
+pub mod scan; // scan.rt: the records of a file, judged one by one
+
+// The words that a CL and an OP record hold, in either width: what is read is lent at its known size,
+// so that no offset is tested again. A wide total is a flag, then four bytes.
+fn total_of(bytes: &[u8]) -> Total
+    ensures { λ r. ⌜ r ≡ flaggedAt (now (bytes .entry)) 0 ⌝ }
 {
-    mark_at(&file[at..at + 2], 0)
+    let amount = cell_word(pair_at(bytes, 1), pair_at(bytes, 3));
+    let saturated = byte_at(bytes, 0) == 1;
+    Total {
+        amount: amount,
+        saturated: saturated,
+    }
 }
 
 fn cell_at(file: &[u8], at: usize) -> u32
     requires { ⌜ at + 8 ≤ length (now file) ⌝ }
-    ensures { λ r. ⌜ r ≡ cellWordAt (now (file .entry)) at ⌝ }
+    ensures { λ r. ⌜ r ≡ cellWordAt narrowFile (now (file .entry)) at ⌝ }
 {
     let record = &file[at..at + 8];
     cell_word(pair_at(record, 4), pair_at(record, 6))
 }
 
-fn operation_at(file: &[u8], at: usize) -> u64
+fn wide_cell_at(file: &[u8], at: usize) -> u64
+    requires { ⌜ at + 11 ≤ length (now file) ⌝ }
+    ensures { λ r. ⌜ r ≡ cellWordAt wideFile (now (file .entry)) at ⌝ }
+{
+    let record = &file[at..at + 11];
+    wide_cell_word(pair_at(record, 4), total_of(&record[6..11]))
+}
+
+fn narrow_operation_at(file: &[u8], at: usize) -> u64
     requires { ⌜ at + 7 ≤ length (now file) ⌝ }
-    ensures { λ r. ⌜ r ≡ operationWordAt (now (file .entry)) at ⌝ }
+    ensures { λ r. ⌜ r ≡ operationWordAt narrowFile (now (file .entry)) at ⌝ }
 {
     let record = &file[at..at + 7];
     operation_word(byte_at(record, 2), pair_at(record, 3), pair_at(record, 5))
 }
 
-// The position past a record that is not turned away. The byte behind the mark is a TB record's k, and
-// an SC record's count.
-fn past(file: &[u8], position: Position) -> Position
-    requires { ⌜ faultAt runFile (now file) position ≡ 0 ⌝ }
-    ensures { λ r. ⌜ r ≡ nextOf (now (file .entry)) position ⌝ }
+fn wide_operation_at(file: &[u8], at: usize) -> u64
+    requires { ⌜ at + 10 ≤ length (now file) ⌝ }
+    ensures { λ r. ⌜ r ≡ operationWordAt wideFile (now (file .entry)) at ⌝ }
 {
-    let mut next = position;
-    let at = position.at;
-    let mark = mark_of(file, at);
-    let first = file[at + 2] as usize;
-    match mark {
-        Mark::Table => {
-            next.at = at + 3;
-            next.part = 1;
-            next.size = 1 << first;
-        }
-        Mark::Cell => {
-            next.at = at + 8;
-            next.part = 2;
-            next.lowest = (pair_at(&file[at..at + 8], 2) as usize) + 1;
-        }
-        Mark::Operation => {
-            next.at = at + 7;
-            next.part = 3;
-            next.operations = position.operations + 1;
-        }
-        Mark::Schedule => {
-            next.at = at + (3 + first);
-            next.part = 4;
-            next.entries = position.entries + first;
-        }
-        Mark::Unknown => {}
-    }
-    next
+    let record = &file[at..at + 10];
+    wide_operation_word(
+        byte_at(record, 2),
+        pair_at(record, 3),
+        total_of(&record[5..10]),
+    )
 }
 
-// The first faulty record of a file, and why it is turned away; number 0 and place 0 for none.
-fn judge(file: &[u8]) -> Refusal
-    ensures { λ r. ⌜ r ≡ firstMet (recordConditions runFile (now (file .entry)) (records runFile (now (file .entry)) start)) ⌝ }
+fn operation_at(file: &[u8], at: usize, flagged: bool) -> u64
+    requires { ⌜ at + (layoutOf flagged .totalSize + 5) ≤ length (now file) ⌝ }
+    ensures { λ r. ⌜ r ≡ operationWordAt (layoutOf flagged) (now (file .entry)) at ⌝ }
 {
-    let mut position = start();
-    loop {
-        let number = fault_at(file, position);
-        if number != 0 {
-            return Refusal {
-                number: number,
-                place: position.at,
-            };
-        }
-        position = past(file, position);
-        if file.len() <= position.at {
-            return Refusal {
-                number: 0,
-                place: 0,
-            };
-        }
+    if flagged {
+        return wide_operation_at(file, at);
     }
+    narrow_operation_at(file, at)
 }
 
-// Why the reader turns a call away, or number 0 and place 0. Of the slices only the lengths count.
-fn refusal_of(file: &[u8], cells: usize, operations: usize, schedule: usize) -> Refusal
-    ensures { λ r. ⌜ r ≡ readerRefusal (now (file .entry)) cells operations schedule ⌝ }
+// Of the two slices that the cells are lent as, the one of the width that is read: its first cells
+// emptied, or one cell stored.
+fn clear_cells(narrow: &mut [u32], wide: &mut [u64], flagged: bool, size: usize)
+    requires { ⌜ size ≤ length (lentCells flagged (now narrow) (now wide)) ⌝ }
+    ensures { λ _. ⌜ Rewritten flagged (now (narrow .entry)) (now (wide .entry)) (now (narrow .exit)) (now (wide .exit)) (over (replicate size 0) (lentCells flagged (now (narrow .entry)) (now (wide .entry)))) ⌝ }
+{
+    if flagged {
+        clear_wide(&mut wide[..size]);
+        return;
+    }
+    clear(&mut narrow[..size]);
+}
+
+fn put_cell(
+    file: &[u8],
+    at: usize,
+    narrow: &mut [u32],
+    wide: &mut [u64],
+    flagged: bool,
+    cell: usize,
+)
+    requires { ⌜ (at + (layoutOf flagged .totalSize + 6) ≤ length (now file)) × (cell < length (lentCells flagged (now narrow) (now wide))) ⌝ }
+    ensures { λ _. ⌜ Rewritten flagged (now (narrow .entry)) (now (wide .entry)) (now (narrow .exit)) (now (wide .exit)) (set (lentCells flagged (now (narrow .entry)) (now (wide .entry))) cell (cellWordAt (layoutOf flagged) (now (file .entry)) at)) ⌝ }
+{
+    if flagged {
+        wide[cell] = wide_cell_at(file, at);
+        return;
+    }
+    narrow[cell] = cell_at(file, at);
+}
+
+// Whether a lent slice is too short, by the lengths alone: with the file's own refusals behind it, that
+// is why the reader turns a call away, number 0 and place 0 if it does not.
+fn refusal_of(
+    file: &[u8],
+    flagged: bool,
+    cells: usize,
+    operations: usize,
+    schedule: usize,
+) -> Refusal
+    ensures { λ r. ⌜ r ≡ readerRefusal (layoutOf flagged) (now (file .entry)) cells operations schedule ⌝ }
 {
     let too_short = Refusal {
         number: 3,
@@ -129,13 +148,7 @@ fn refusal_of(file: &[u8], cells: usize, operations: usize, schedule: usize) -> 
     if schedule < MOST_ENTRIES {
         return too_short;
     }
-    if MOST_BYTES < file.len() {
-        return Refusal {
-            number: 12,
-            place: 0,
-        };
-    }
-    judge(file)
+    file_refusal(file, flagged)
 }
 
 // Copies bytes over the front of others.
@@ -155,30 +168,32 @@ fn copy(from: &[u8], to: &mut [u8])
 // position says how many operations and entries stand already.
 fn store(
     file: &[u8],
+    flagged: bool,
     position: Position,
     next: Position,
-    cells: &mut [u32],
+    narrow: &mut [u32],
+    wide: &mut [u64],
     operations: &mut [u64],
     schedule: &mut [u8],
 )
-    requires { ⌜ Storable (now file) position next (now cells) (now operations) (now schedule) ⌝ }
-    ensures { λ _. ⌜ stored (now (file .entry)) position (markAt (now (file .entry)) (position .at)) (record { cells = now (cells .entry); operations = now (operations .entry); schedule = now (schedule .entry) })
-        ≡ record { cells = now (cells .exit); operations = now (operations .exit); schedule = now (schedule .exit) } ⌝ }
+    requires { ⌜ Storable (layoutOf flagged) (now file) position next (lentCells flagged (now narrow) (now wide)) (now operations) (now schedule) ⌝ }
+    ensures { λ _. ⌜ stored (layoutOf flagged) (now (file .entry)) position (markAt (layoutOf flagged) (now (file .entry)) (position .at)) (record { cells = lentCells flagged (now (narrow .entry)) (now (wide .entry)); operations = now (operations .entry); schedule = now (schedule .entry) })
+        ≡ record { cells = lentCells flagged (now (narrow .exit)) (now (wide .exit)); operations = now (operations .exit); schedule = now (schedule .exit) } ⌝ }
+    ensures { λ _. ⌜ lentCells (not flagged) (now (narrow .exit)) (now (wide .exit)) ≡ lentCells (not flagged) (now (narrow .entry)) (now (wide .entry)) ⌝ }
 {
     let at = position.at;
-    let mark = mark_of(file, at);
+    let mark = mark_of(file, at, flagged);
     match mark {
         Mark::Table => {
-            let size = next.size;
-            clear(&mut cells[..size]);
+            clear_cells(narrow, wide, flagged, next.size);
         }
         Mark::Cell => {
             let cell = next.lowest - 1;
-            cells[cell] = cell_at(file, at);
+            put_cell(file, at, narrow, wide, flagged, cell);
         }
         Mark::Operation => {
             let i = position.operations;
-            operations[i] = operation_at(file, at);
+            operations[i] = operation_at(file, at, flagged);
         }
         Mark::Schedule => {
             let first = at + 3;
@@ -191,21 +206,37 @@ fn store(
 }
 
 // Fills the slices with what an accepted file holds, and says how much that is.
-fn fill(file: &[u8], cells: &mut [u32], operations: &mut [u64], schedule: &mut [u8]) -> Position
-    requires { ⌜ readerRefusal (now file) (length (now cells)) (length (now operations)) (length (now schedule)) .number ≡ 0 ⌝ }
-    ensures { λ r. ⌜ acceptedReading (contents (now (file .entry))) (now (cells .entry)) (now (operations .entry)) (now (schedule .entry))
+fn fill(
+    file: &[u8],
+    flagged: bool,
+    narrow: &mut [u32],
+    wide: &mut [u64],
+    operations: &mut [u64],
+    schedule: &mut [u8],
+) -> Position
+    requires { ⌜ readerRefusal (layoutOf flagged) (now file) (length (lentCells flagged (now narrow) (now wide))) (length (now operations)) (length (now schedule)) .number ≡ 0 ⌝ }
+    ensures { λ r. ⌜ acceptedReading (contents (layoutOf flagged) (now (file .entry))) (lentCells flagged (now (narrow .entry)) (now (wide .entry))) (now (operations .entry)) (now (schedule .entry))
         ≡ record {
           loaded = record { number = 0; place = 0; cells = r .size; operations = r .operations; entries = r .entries };
-          cells = now (cells .exit);
+          cells = lentCells flagged (now (narrow .exit)) (now (wide .exit));
           operations = now (operations .exit);
           schedule = now (schedule .exit);
         } ⌝ }
-    ensures { λ r. ⌜ Counts (r .size) (now (cells .exit)) × Counts (r .operations) (now (operations .exit)) × Counts (r .entries) (now (schedule .exit)) ⌝ }
+    ensures { λ r. ⌜ Counts (r .size) (lentCells flagged (now (narrow .exit)) (now (wide .exit))) × Counts (r .operations) (now (operations .exit)) × Counts (r .entries) (now (schedule .exit)) ⌝ }
 {
     let mut position = start();
     loop {
-        let next = past(file, position);
-        store(file, position, next, cells, operations, schedule);
+        let next = past(file, flagged, position);
+        store(
+            file,
+            flagged,
+            position,
+            next,
+            narrow,
+            wide,
+            operations,
+            schedule,
+        );
         position = next;
         if file.len() <= position.at {
             return position;
@@ -217,13 +248,14 @@ fn fill(file: &[u8], cells: &mut [u32], operations: &mut [u64], schedule: &mut [
 // says how many of each it wrote: what the slices hold past those stays. A file that is turned away
 // alters nothing. Checks 4 to 8 are the run's.
 pub fn load(file: &[u8], cells: &mut [u32], operations: &mut [u64], schedule: &mut [u8]) -> Loaded
-    ensures result { λ r. ⌜ reading (now (file .entry)) (now (cells .entry)) (now (operations .entry)) (now (schedule .entry))
+    ensures result { λ r. ⌜ reading narrowFile (now (file .entry)) (now (cells .entry)) (now (operations .entry)) (now (schedule .entry))
         ≡ record { loaded = r; cells = now (cells .exit); operations = now (operations .exit); schedule = now (schedule .exit) } ⌝ }
     ensures counted { λ r. ⌜ Counts (r .cells) (now (cells .exit)) × Counts (r .operations) (now (operations .exit)) × Counts (r .entries) (now (schedule .exit)) ⌝ }
 {
-    let refusal = refusal_of(file, cells.len(), operations.len(), schedule.len());
+    let refusal = refusal_of(file, false, cells.len(), operations.len(), schedule.len());
     if refusal.number == 0 {
-        let end = fill(file, cells, operations, schedule);
+        let mut wide = [0u64; 0];
+        let end = fill(file, false, cells, &mut wide, operations, schedule);
         return Loaded {
             number: 0,
             place: 0,

@@ -1,38 +1,100 @@
 -- `faults::operation_fault` meets its contract.
 -- Assumes nothing.
-use mathlib.Core.Path.{_≡_, refl, sym, _∙_}
+use mathlib.Core.Path.{_≡_, sym, _∙_}
+use Prim.Native.Nat.{_≤_}
 use mathlib.Core.Bool.{true, false}
 use native.Mathlib.Omega.{arith}
+use lib.ListN.{length}
 use borrow.Author.Tests.{le-leb, lt-leb}
 use Rattle.semantics.specs.declared.Mark.the-variants.{Operation}
-use Rattle.semantics.specs.RunFile.{partOf, mayFollow, sizeOf, isBodyWrong, isOneTooMany}
-use Rattle.faults.proofs.Order.{out-of-order, body-is-cut, count-decides}
+use Rattle.semantics.specs.RunFile.{Layout, layoutOf, mayFollow, sizeOf}
+use Rattle.semantics.proofs.Parts.{total-bytes}
+use Rattle.faults.proofs.Order.{out-of-order, body-is-cut, body-is-wrong, count-decides}
 use borrow.Author.Needs.{needs}
 use Rattle.faults.proofs.operation_fault.Statement.{statement}
 use Rattle.faults.proofs.operation_fault.Tie as tie
 
-follows : (c : tie.Then1) → mayFollow (c .before .before .before .args .position .part) 3 ≡ true
+-- the start of the function, where the mark may follow and where it may not
+abbrev start : tie.After-may-follow → tie.Start
+start c = c .before .before
+
+abbrev layout : tie.Start → Layout
+layout c = layoutOf (c .args .flagged)
+
+follows : (c : tie.Then1) → mayFollow (start (c .before) .args .position .part) 3 ≡ true
 follows c = sym (c .before .may-follow .ensures) ∙ c .if1 .taken
+
+-- a body that is whole, and its amount judged
+abbrev begun : tie.Else3 → tie.Start
+begun c = start (c .before .before .before .before)
+
+abbrev whole : tie.After-is-total-wrong → tie.Else3
+whole c = c .before
+
+abbrev amount : tie.After-struct-known → tie.Else4
+amount c = c .before
+
+fits : (c : tie.Else3) → let s = begun c in sizeOf (layout s) (s .args .rest .now) 0 Operation ≤ length (s .args .rest .now)
+fits c = omega (arith, c .if3 .left, c .before .total-size .ensures)
+
+wrong : (c : tie.After-is-total-wrong)
+    → let a = begun (whole c) .args in layoutOf (a .flagged) .isTotalWrong (a .rest .now) 5 ≡ c .is-total-wrong .result
+wrong c = sym (c .is-total-wrong .ensures)
 
 may-follow-requires : tie.Need-may-follow-requires
 may-follow-requires c κs = search needs
 
 returns : tie.Need-returns
-unfolding partOf sizeOf
-returns c = body-is-cut (c .before .before .before .before .args .rest .now) (c .before .before .before .before .args .position) Operation (follows (c .before)) (c .if2 .taken)
+returns c = let s = start (c .before .before) in
+    body-is-cut (layout s) (s .args .rest .now) (s .args .position) Operation (follows (c .before)) (omega (arith, c .if2 .taken, total-bytes (s .args .flagged)))
+
+total-size-requires : tie.Need-total-size-requires
+total-size-requires c κs = search needs
+
+add-if3 : tie.Need-add-if3
+add-if3 c = record { fits = omega (arith, c .total-size .ensures, total-bytes (start (c .before .before .before) .args .flagged)) }
 
 returns-2 : tie.Need-returns-2
-unfolding partOf sizeOf isBodyWrong isOneTooMany
-returns-2 c = count-decides (c .before .before .before .before .before .before .args .rest .now) (c .before .before .before .before .before .before .args .position) Operation (follows (c .before .before .before)) (c .before .before .if2 .left) true refl (le-leb 64 (c .before .before .before .before .before .before .args .position .operations) (omega (arith, c .if3 .taken)))
+returns-2 c = let s = start (c .before .before .before .before) in
+    body-is-cut (layout s) (s .args .rest .now) (s .args .position) Operation (follows (c .before .before .before)) (omega (arith, c .if3 .taken, c .before .total-size .ensures))
+
+is-total-wrong-requires : tie.Need-is-total-wrong-requires
+is-total-wrong-requires c κs = search needs
 
 returns-3 : tie.Need-returns-3
-unfolding partOf sizeOf isBodyWrong isOneTooMany
-returns-3 c = count-decides (c .before .before .before .before .before .before .args .rest .now) (c .before .before .before .before .before .before .args .position) Operation (follows (c .before .before .before)) (c .before .before .if2 .left) false refl (lt-leb 64 (c .before .before .before .before .before .before .args .position .operations) (omega (arith, c .if3 .left)))
+returns-3 c = let w = whole (c .before) in
+    let s = begun w in
+    body-is-wrong (layout s) (s .args .rest .now) (s .args .position) Operation (follows (w .before .before .before)) (fits w) (wrong (c .before) ∙ c .if4 .taken)
 
 returns-4 : tie.Need-returns-4
-unfolding partOf
-returns-4 c = out-of-order (c .before .before .before .args .rest .now) (c .before .before .before .args .position) Operation (sym (c .before .may-follow .ensures) ∙ c .if1 .left)
+returns-4 c = let t = amount (c .before) in
+    let w = whole (t .before) in
+    let s = begun w in
+    count-decides (layout s) (s .args .rest .now) (s .args .position) Operation (follows (w .before .before .before)) (fits w) true
+    (wrong (t .before) ∙ t .if4 .left) (le-leb 64 (s .args .position .operations) (omega (arith, c .if5 .taken)))
+
+returns-5 : tie.Need-returns-5
+returns-5 c = let t = amount (c .before) in
+    let w = whole (t .before) in
+    let s = begun w in
+    count-decides (layout s) (s .args .rest .now) (s .args .position) Operation (follows (w .before .before .before)) (fits w) false
+    (wrong (t .before) ∙ t .if4 .left) (lt-leb 64 (s .args .position .operations) (omega (arith, c .if5 .left)))
+
+returns-6 : tie.Need-returns-6
+returns-6 c = let s = start (c .before) in
+    out-of-order (layout s) (s .args .rest .now) (s .args .position) Operation (sym (c .before .may-follow .ensures) ∙ c .if1 .left)
 
 pub operation-fault-spec : {M : Type 1} → statement M
 operation-fault-spec =
-    tie.close (tie.spec may-follow-requires returns returns-2 returns-3 returns-4)
+    tie.close
+    (tie.spec
+    may-follow-requires
+    returns
+    total-size-requires
+    add-if3
+    returns-2
+    is-total-wrong-requires
+    returns-3
+    returns-4
+    returns-5
+    returns-6)

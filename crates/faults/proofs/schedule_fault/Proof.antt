@@ -9,26 +9,43 @@ use lib.ListN.{length}
 use borrow.Author.Tests.{eq-eqb, ne-eqb}
 use Rattle.semantics.specs.declared.Mark.the-variants.{Schedule}
 use Rattle.semantics.specs.Refusals.{mostEntries}
-use Rattle.semantics.specs.RunFile.{byteAt, partOf, mayFollow, sizeOf, isBodyWrong, isOneTooMany}
+use Rattle.semantics.specs.RunFile.{Layout, layoutOf, row, byteAt, mayFollow, sizeOf}
 use Rattle.faults.specs.Faults.{atFront}
 use Rattle.faults.proofs.Order.{out-of-order, body-is-cut, body-is-wrong, count-decides}
 use borrow.Author.Needs.{needs}
 use Rattle.faults.proofs.schedule_fault.Statement.{statement}
 use Rattle.faults.proofs.schedule_fault.Tie as tie
 
-follows : (c : tie.Then1) → mayFollow (c .before .before .before .args .position .part) 4 ≡ true
+-- the start of the function, where the mark may follow and where it may not
+abbrev start : tie.After-may-follow → tie.Start
+start c = c .before .before
+
+abbrev layout : tie.Start → Layout
+layout c = layoutOf (c .args .flagged)
+
+follows : (c : tie.Then1) → mayFollow (start (c .before) .args .position .part) 4 ≡ true
 follows c = sym (c .before .may-follow .ensures) ∙ c .if1 .taken
 
-whole : (c : tie.Else2) → 3 + byteAt (c .before .before .before .before .before .args .rest .now) 2 ≤ length (c .before .before .before .before .before .args .rest .now)
-whole c = omega (arith, c .if2 .left, c .before .byte-at .ensures)
+-- a body that is whole, and its count judged
+abbrev begun : tie.After-byte-at → tie.Start
+begun c = start (c .before .before)
 
-right : (c : tie.Else3) → isBodyWrong (c .before .before .before .before .before .before .args .rest .now) (atFront (c .before .before .before .before .before .before .args .position)) Schedule ≡ false
-unfolding isBodyWrong
-right c = ne-eqb (byteAt (c .before .before .before .before .before .before .args .rest .now) 2) 0 (λ e. c .if3 .left (c .before .before .byte-at .ensures ∙ e))
+abbrev whole : tie.Else3 → tie.Else2
+whole c = c .before
 
-many : (c : tie.After-is-past-most) → isOneTooMany (c .before .before .before .before .before .before .before .args .rest .now) (atFront (c .before .before .before .before .before .before .before .args .position)) Schedule ≡ c .is-past-most .result
-unfolding isOneTooMany
-many c = sym (c .is-past-most .ensures ∙ ap (λ n. ltb mostEntries (c .before .before .before .before .before .before .before .args .position .entries + n)) (c .before .before .before .byte-at .ensures))
+fits : (c : tie.Else2) → let s = begun (c .before) in sizeOf (layout s) (s .args .rest .now) 0 Schedule ≤ length (s .args .rest .now)
+fits c = omega (arith, c .if2 .left, c .before .byte-at .ensures)
+
+right : (c : tie.Else3)
+    → let a = begun (whole c .before) .args in row (layoutOf (a .flagged)) Schedule .isWrong (a .rest .now) (atFront (a .position)) ≡ false
+right c = ne-eqb (byteAt (begun (whole c .before) .args .rest .now) 2) 0 (λ e. c .if3 .left (whole c .before .byte-at .ensures ∙ e))
+
+many : (c : tie.After-is-past-most)
+    → let a = begun (whole (c .before) .before) .args in
+    row (layoutOf (a .flagged)) Schedule .isTooMany (a .rest .now) (atFront (a .position)) ≡ c .is-past-most .result
+many c =
+    let count = whole (c .before) .before in
+    sym (c .is-past-most .ensures ∙ ap (λ n. ltb mostEntries (begun count .args .position .entries + n)) (count .byte-at .ensures))
 
 may-follow-requires : tie.Need-may-follow-requires
 may-follow-requires c κs = search needs
@@ -43,27 +60,33 @@ add-if2 : tie.Need-add-if2
 add-if2 c = search needs
 
 returns : tie.Need-returns
-unfolding partOf sizeOf
-returns c = body-is-cut (c .before .before .before .before .before .args .rest .now) (c .before .before .before .before .before .args .position) Schedule (follows (c .before .before)) (omega (arith, c .if2 .taken, c .before .byte-at .ensures))
+returns c = let s = begun (c .before) in
+    body-is-cut (layout s) (s .args .rest .now) (s .args .position) Schedule (follows (c .before .before)) (omega (arith, c .if2 .taken, c .before .byte-at .ensures))
 
 returns-2 : tie.Need-returns-2
-unfolding partOf sizeOf isBodyWrong
-returns-2 c = body-is-wrong (c .before .before .before .before .before .before .args .rest .now) (c .before .before .before .before .before .before .args .position) Schedule (follows (c .before .before .before)) (whole (c .before)) (eq-eqb (byteAt (c .before .before .before .before .before .before .args .rest .now) 2) 0 (sym (c .before .before .byte-at .ensures) ∙ c .if3 .taken))
+returns-2 c = let w = c .before in
+    let s = begun (w .before) in
+    body-is-wrong (layout s) (s .args .rest .now) (s .args .position) Schedule (follows (w .before .before)) (fits w)
+    (eq-eqb (byteAt (s .args .rest .now) 2) 0 (sym (w .before .byte-at .ensures) ∙ c .if3 .taken))
 
 is-past-most-requires : tie.Need-is-past-most-requires
 is-past-most-requires c κs = search needs
 
 returns-3 : tie.Need-returns-3
-unfolding partOf sizeOf
-returns-3 c = count-decides (c .before .before .before .before .before .before .before .before .args .rest .now) (c .before .before .before .before .before .before .before .before .args .position) Schedule (follows (c .before .before .before .before .before)) (whole (c .before .before .before)) true (right (c .before .before)) (many (c .before) ∙ c .if4 .taken)
+returns-3 c = let r = c .before .before in
+    let w = whole r in
+    let s = begun (w .before) in
+    count-decides (layout s) (s .args .rest .now) (s .args .position) Schedule (follows (w .before .before)) (fits w) true (right r) (many (c .before) ∙ c .if4 .taken)
 
 returns-4 : tie.Need-returns-4
-unfolding partOf sizeOf
-returns-4 c = count-decides (c .before .before .before .before .before .before .before .before .args .rest .now) (c .before .before .before .before .before .before .before .before .args .position) Schedule (follows (c .before .before .before .before .before)) (whole (c .before .before .before)) false (right (c .before .before)) (many (c .before) ∙ c .if4 .left)
+returns-4 c = let r = c .before .before in
+    let w = whole r in
+    let s = begun (w .before) in
+    count-decides (layout s) (s .args .rest .now) (s .args .position) Schedule (follows (w .before .before)) (fits w) false (right r) (many (c .before) ∙ c .if4 .left)
 
 returns-5 : tie.Need-returns-5
-unfolding partOf
-returns-5 c = out-of-order (c .before .before .before .args .rest .now) (c .before .before .before .args .position) Schedule (sym (c .before .may-follow .ensures) ∙ c .if1 .left)
+returns-5 c = let s = start (c .before) in
+    out-of-order (layout s) (s .args .rest .now) (s .args .position) Schedule (sym (c .before .may-follow .ensures) ∙ c .if1 .left)
 
 pub schedule-fault-spec : {M : Type 1} → statement M
 schedule-fault-spec =

@@ -41,10 +41,13 @@ loop-less : tie.Need-loop-less Inv-loop μ-loop
 loop-less c = search needs
 
 loop-again : tie.Need-loop-again Inv-loop μ-loop
-loop-again c = let turn = c .before in (
-  omega (arith, turn .loop-test .taken),
-  map-next (λ b. b) (c .before .before .before .args .from .now) 0 (c .before .before .loop .i) (c .before .before .before .args .to .now) (c .before .before .loop .to) (turn .loop-test .taken) (c .before .before .before .pre) (c .before .before .loop .inv .1) refl,
-)
+loop-again c =
+    let turn = c .before in
+    let at = turn .before in
+    let s = at .before in (
+      omega (arith, turn .loop-test .taken),
+      map-next (λ b. b) (s .args .from .now) 0 (at .loop .i) (s .args .to .now) (at .loop .to) (turn .loop-test .taken) (s .pre) (at .loop .inv .1) refl,
+    )
 
 same-length : tie.Need-same-length Inv-loop μ-loop
 same-length c = long (c .before)

@@ -3,17 +3,29 @@
 use mathlib.Core.Path.{sym, ap, _∙_}
 use native.Mathlib.Omega.{arith}
 use Rattle.semantics.specs.declared.Refusal.{Refusal}
+use Rattle.semantics.specs.RunFile.{narrowFile}
 use Rattle.runfile.proofs.Refused.{reading-accepted, reading-refused}
 use Rattle.runfile.proofs.Filled.{counts-front}
 use borrow.Author.Needs.{needs}
 use Rattle.runfile.proofs.load.Statement.{statement}
 use Rattle.runfile.proofs.load.Tie as tie
 
+-- the start of the function, and the branch that fills
+abbrev start : tie.After-refusal-of → tie.Start
+start c = c .before .before .before .before .before
+
+abbrev branch : tie.After-fill → tie.Then1
+branch c = c .before .before .before .before .before
+
 refusal-of-requires : tie.Need-refusal-of-requires
 refusal-of-requires c κs = search needs
 
+slice-aggregate-fill : tie.Need-slice-aggregate-fill
+slice-aggregate-fill c = search needs
+
 fill-requires : tie.Need-fill-requires
-fill-requires c κs = ap (λ (q : Refusal). q .number) (sym (c .before .before .before .before .before .refusal-of .ensures)) ∙ c .before .before .before .if1 .taken
+fill-requires c κs = let t = c .before .before .before .before in
+    ap (λ (q : Refusal). q .number) (sym (t .before .before .refusal-of .ensures)) ∙ t .if1 .taken
 
 same-length : tie.Need-same-length
 same-length c = search needs
@@ -25,23 +37,28 @@ same-length-3 : tie.Need-same-length-3
 same-length-3 c = search needs
 
 returns : tie.Need-returns
-returns c = let a = c .before .before .before .before .before .before .before .before .before .before .before .before .before .before .before .before .before .args in (
-  reading-accepted (a .file .now) (a .cells .now) (a .operations .now) (a .schedule .now) (c .before .before .before .before .before .before .before .before .before .before .before .before .refusal-of .ensures) (c .before .before .before .before .before .before .before .before .before .before .if1 .taken)
-      ∙ c .before .before .before .before .before .before .fill .ensures .0,
-  c .before .before .before .before .before .before .fill .ensures .1,
-)
+returns c = let filled = c .before .before .before .before .before .before .before in
+    let t = branch filled in
+    let judged = t .before .before in
+    let a = start judged .args in (
+      reading-accepted narrowFile (a .file .now) (a .cells .now) (a .operations .now) (a .schedule .now) (judged .refusal-of .ensures) (t .if1 .taken)
+          ∙ filled .fill .ensures .0,
+      filled .fill .ensures .1,
+    )
 
 returns-2 : tie.Need-returns-2
-returns-2 c = let a = c .before .before .before .before .before .before .before .args in (
-  reading-refused (a .file .now) (a .cells .now) (a .operations .now) (a .schedule .now) (c .before .before .refusal-of .ensures) (c .if1 .left),
-  (counts-front 0 (a .cells .now) (omega arith), counts-front 0 (a .operations .now) (omega arith), counts-front 0 (a .schedule .now) (omega arith)),
-)
+returns-2 c = let judged = c .before .before in
+    let a = start judged .args in (
+      reading-refused narrowFile (a .file .now) (a .cells .now) (a .operations .now) (a .schedule .now) (judged .refusal-of .ensures) (c .if1 .left),
+      (counts-front 0 (a .cells .now) (omega arith), counts-front 0 (a .operations .now) (omega arith), counts-front 0 (a .schedule .now) (omega arith)),
+    )
 
 pub load-spec : {M : Type 1} → statement M
 load-spec =
     tie.close
     (tie.spec
     refusal-of-requires
+    slice-aggregate-fill
     fill-requires
     same-length
     same-length-2

@@ -1,55 +1,33 @@
 -- `runfile::operation_at` meets its contract.
 -- Assumes nothing.
-use mathlib.Core.Path.{_∙_}
-use Prim.Native.Nat.{_+_, _*_, _^_}
-use native.Mathlib.Omega.{arith}
-use Rattle.semantics.proofs.Parts.{part-agrees, pair-agrees}
-use borrow.Author.Needs.{needs}
+use mathlib.Core.Path.{_≡_, sym, ap, subst, _∙_}
+use Prim.Native.Nat.{_+_, _≤_}
+use mathlib.Core.Bool.{Bool}
+use lib.ListN.{length}
+use Rattle.semantics.specs.RunFile.{layoutOf, operationWordAt}
 use Rattle.runfile.proofs.operation_at.Statement.{statement}
 use Rattle.runfile.proofs.operation_at.Tie as tie
 
-add-record : tie.Need-add-record
-add-record c = search needs
+-- what a width asks, and what it gives, once it is known which it is
+fits : (s : tie.Start) {w : Bool} → s .args .flagged ≡ w → s .args .at + (layoutOf w .totalSize + 5) ≤ length (s .args .file .now)
+fits s e = subst (λ w. s .args .at + (layoutOf w .totalSize + 5) ≤ length (s .args .file .now)) e (s .pre)
 
-sub-record : tie.Need-sub-record
-sub-record c = search needs
+known : (s : tie.Start) {w : Bool} → s .args .flagged ≡ w
+    → operationWordAt (layoutOf w) (s .args .file .now) (s .args .at) ≡ operationWordAt (layoutOf (s .args .flagged)) (s .args .file .now) (s .args .at)
+known s e = ap (λ w. operationWordAt (layoutOf w) (s .args .file .now) (s .args .at)) (sym e)
 
-part-record-start : tie.Need-part-record-start
-part-record-start c = search needs
-
-part-record-end : tie.Need-part-record-end
-part-record-end c = search needs
-
-byte-at-requires : tie.Need-byte-at-requires
-byte-at-requires c κs = search needs
-
-pair-at-requires : tie.Need-pair-at-requires
-pair-at-requires c κs = search needs
-
-pair-at-requires-2 : tie.Need-pair-at-requires-2
-pair-at-requires-2 c κs = search needs
-
-operation-word-requires : tie.Need-operation-word-requires
-operation-word-requires c κs = search needs
+wide-operation-at-requires : tie.Need-wide-operation-at-requires
+wide-operation-at-requires c κs = fits (c .before .before) (c .if1 .taken)
 
 returns : tie.Need-returns
-returns c =
-    let same = part-agrees 7 (c .before .before .before .before .before .before .args .file .now) (c .before .before .before .before .before .before .args .at) in
-    let kind = c .before .before .before .byte-at .ensures ∙ same .byte 2 (omega arith) in
-    let key = c .before .before .pair-at .ensures ∙ pair-agrees same 3 (omega arith) in
-    let amount = c .before .pair-at2 .ensures ∙ pair-agrees same 5 (omega arith) in
-    c .operation-word .ensures ∙ (λ i. kind i * 2 ^ 32 + key i * 65536 + amount i)
+returns c = c .wide-operation-at .ensures ∙ known (c .before .before .before) (c .before .if1 .taken)
+
+narrow-operation-at-requires : tie.Need-narrow-operation-at-requires
+narrow-operation-at-requires c κs = fits (c .before .before) (c .if1 .left)
+
+returns-2 : tie.Need-returns-2
+returns-2 c = c .narrow-operation-at .ensures ∙ known (c .before .before .before) (c .before .if1 .left)
 
 pub operation-at-spec : {M : Type 1} → statement M
 operation-at-spec =
-    tie.close
-    (tie.spec
-    add-record
-    sub-record
-    part-record-start
-    part-record-end
-    byte-at-requires
-    pair-at-requires
-    pair-at-requires-2
-    operation-word-requires
-    returns)
+    tie.close (tie.spec wide-operation-at-requires returns narrow-operation-at-requires returns-2)

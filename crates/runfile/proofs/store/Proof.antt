@@ -1,87 +1,108 @@
 -- `runfile::store` meets its contract: what a record that is not turned away says fits the slices.
 -- Assumes nothing.
-use mathlib.Core.Path.{_≡_, refl, sym}
-use Prim.Native.Nat.{_+_, _^_, _≤_}
+use mathlib.Core.Path.{_≡_, refl}
+use Prim.Native.Nat.{ℕ, _+_, _^_, _≤_, _<_}
+use mathlib.Core.List.{List}
 use native.Mathlib.Omega.{arith}
 use lib.ListN.{length, length-take, length-drop}
-use lib.Pow.{pow-mono}
-use lib.Seq.{length-take-le}
 use Rattle.semantics.specs.declared.Mark.the-variants.{Cell, Operation, Schedule}
-use Rattle.semantics.specs.RunFile.{Contents, byteAt, pairAt, sizeOf}
-use Rattle.record.proofs.Judged.{Sound, sound, within, is-known, whole-of, exponent, inside, few, short}
+use Rattle.semantics.specs.RunFile.{Layout, layoutOf, Contents, byteAt, pairAt}
+use Rattle.runfile.specs.Stored.{lentCells}
+use Rattle.runfile.proofs.Judged.{Sound, sound, within, is-known, whole-of, size-small, inside, few, short}
 use Rattle.runfile.proofs.Onward.{table-size, cell-below, entries-end}
 use Rattle.runfile.proofs.Stores.{stored-table, stored-cell, stored-operation, stored-schedule}
 use borrow.Author.Needs.{needs}
 use Rattle.runfile.proofs.store.Statement.{statement}
 use Rattle.runfile.proofs.store.Tie as tie
 
-ok : (c : tie.After-mark-of) → Sound (c .before .before .before .before .before .args .file .now) (c .before .before .before .before .before .args .position) (c .mark-of .result)
-ok c = sound (c .before .before .before .before .before .args .file .now) (c .before .before .before .before .before .args .position) (c .mark-of .ensures) (c .before .before .before .before .before .pre .sound)
+-- the start of the function, what is lent, and the record that no condition turns away
+abbrev start : tie.After-mark-of → tie.Start
+start c = c .before .before .before .before .before .before
 
-abbrev slices : (c : tie.Start) → Contents
-slices c = record { cells = c .args .cells .now; operations = c .args .operations .now; schedule = c .args .schedule .now }
+abbrev layout : tie.Start → Layout
+layout c = layoutOf (c .args .flagged)
 
-cleared : (c : tie.After-enum-told) → c .before .before .before .before .before .before .before .args .next .size ≤ length (c .before .before .before .before .before .before .before .args .cells .now)
-cleared c =
-    let small : 2 ^ byteAt (c .before .before .before .before .before .before .before .args .file .now) (c .before .before .before .before .before .before .before .args .position .at + 2) ≤ 4096 = pow-mono (exponent (ok (c .before .before)) (c .enum-told .given .1) .1) in
-    omega (arith, table-size (c .before .before .before .before .before .before .before .args .file .now) (c .before .before .before .before .before .before .before .args .position) (c .before .before .mark-of .ensures) (c .before .before .before .before .before .before .before .pre .past) (c .enum-told .given .1), c .before .before .before .before .before .before .before .pre .cells)
+abbrev cells : tie.Start → List ℕ
+cells c = lentCells (c .args .flagged) (c .args .narrow .now) (c .args .wide .now)
 
-number : (c : tie.After-struct-known) → c .before .before .before .before .before .before .before .before .args .next .lowest ≡ pairAt (c .before .before .before .before .before .before .before .before .args .file .now) (c .before .before .before .before .before .before .before .before .args .position .at + 2) + 1
-number c = cell-below (c .before .before .before .before .before .before .before .before .args .file .now) (c .before .before .before .before .before .before .before .before .args .position) (c .before .before .before .mark-of .ensures) (c .before .before .before .before .before .before .before .before .pre .past) (c .before .enum-told2 .given .1)
+abbrev slices : tie.Start → Contents
+slices c = record { cells = cells c; operations = c .args .operations .now; schedule = c .args .schedule .now }
 
-room : (c : tie.After-enum-told4) → c .before .before .before .before .before .before .before .args .position .entries + byteAt (c .before .before .before .before .before .before .before .args .file .now) (c .before .before .before .before .before .before .before .args .position .at + 2) ≤ length (c .before .before .before .before .before .before .before .args .schedule .now)
-room c = omega (arith, short (ok (c .before .before)) (c .enum-told4 .given .1), c .before .before .before .before .before .before .before .pre .entries)
+ok : (c : tie.After-mark-of) → let s = start c in Sound (layout s) (s .args .file .now) (s .args .position) (c .mark-of .result)
+ok c = let s = start c in sound (layout s) (s .args .file .now) (s .args .position) (c .mark-of .ensures) (s .pre .sound)
 
-whole : (c : tie.After-enum-told4) → c .before .before .before .before .before .before .before .args .position .at + (3 + byteAt (c .before .before .before .before .before .before .before .args .file .now) (c .before .before .before .before .before .before .before .args .position .at + 2)) ≤ length (c .before .before .before .before .before .before .before .args .file .now)
-unfolding sizeOf
-whole c = whole-of (ok (c .before .before)) {M = Schedule} (c .enum-told4 .given .1)
+-- its mark, as each arm of the match sees it
+abbrev table : tie.After-enum-told → tie.After-mark-of
+table c = c .before .before
 
-end : (c : tie.After-enum-told4) → c .before .before .before .before .before .before .before .args .next .at ≡ c .before .before .before .before .before .before .before .args .position .at + (3 + byteAt (c .before .before .before .before .before .before .before .args .file .now) (c .before .before .before .before .before .before .before .args .position .at + 2))
-end c = entries-end (c .before .before .before .before .before .before .before .args .file .now) (c .before .before .before .before .before .before .before .args .position) (c .before .before .mark-of .ensures) (c .before .before .before .before .before .before .before .pre .past) (c .enum-told4 .given .1)
+abbrev cell : tie.After-enum-told2 → tie.After-mark-of
+cell c = c .before .before
+
+abbrev operation : tie.After-enum-told3 → tie.After-mark-of
+operation c = c .before .before
+
+abbrev schedule : tie.After-enum-told4 → tie.After-mark-of
+schedule c = c .before .before
+
+-- what the next position says of the record: a table's size, a cell's number, and where the entries end
+size : (c : tie.After-enum-told) → let a = start (table c) .args in a .next .size ≡ 2 ^ byteAt (a .file .now) (a .position .at + 2)
+size c = let m = table c in
+    let s = start m in
+    table-size (layout s) (s .args .file .now) (s .args .position) (m .mark-of .ensures) (s .pre .past) (c .enum-told .given .1)
+
+number : (c : tie.After-enum-told2) → let a = start (cell c) .args in a .next .lowest ≡ pairAt (a .file .now) (a .position .at + 2) + 1
+number c = let m = cell c in
+    let s = start m in
+    cell-below (layout s) (s .args .file .now) (s .args .position) (m .mark-of .ensures) (s .pre .past) (c .enum-told2 .given .1)
+
+in-table : (c : tie.After-enum-told2) → let s = start (cell c) in pairAt (s .args .file .now) (s .args .position .at + 2) < length (cells s)
+in-table c = let s = start (cell c) in omega (arith, inside (ok (cell c)) (c .enum-told2 .given .1), s .pre .cells, s .pre .size)
+
+end : (c : tie.After-enum-told4) → let a = start (schedule c) .args in a .next .at ≡ a .position .at + (byteAt (a .file .now) (a .position .at + 2) + 3)
+end c = let m = schedule c in
+    let s = start m in
+    entries-end (layout s) (s .args .file .now) (s .args .position) (m .mark-of .ensures) (s .pre .past) (c .enum-told4 .given .1)
+
+whole : (c : tie.After-enum-told4)
+    → let a = start (schedule c) .args in a .position .at + (byteAt (a .file .now) (a .position .at + 2) + 3) ≤ length (a .file .now)
+whole c = whole-of (ok (schedule c)) {M = Schedule} (c .enum-told4 .given .1)
+
+room : (c : tie.After-enum-told4)
+    → let a = start (schedule c) .args in a .position .entries + byteAt (a .file .now) (a .position .at + 2) ≤ length (a .schedule .now)
+room c = omega (arith, short (ok (schedule c)) (c .enum-told4 .given .1), start (schedule c) .pre .entries)
 
 mark-of-requires : tie.Need-mark-of-requires
-mark-of-requires c κs = omega (arith, within (sound (c .before .before .before .before .args .file .now) (c .before .before .before .before .args .position) refl (c .before .before .before .before .pre .sound)))
+mark-of-requires c κs = let s = c .before .before .before .before .before in
+    omega (arith, within (sound (layout s) (s .args .file .now) (s .args .position) refl (s .pre .sound)))
 
 enum-told : tie.Need-enum-told
 enum-told c = search needs
 
-slice-relend-prefix-clear : tie.Need-slice-relend-prefix-clear
-slice-relend-prefix-clear c = cleared c
-
-slice-aggregate-clear : tie.Need-slice-aggregate-clear
-slice-aggregate-clear c = sym (length-take-le (c .before .before .before .before .before .before .before .before .args .next .size) (c .before .before .before .before .before .before .before .before .args .cells .now) (cleared (c .before)))
-
-clear-requires : tie.Need-clear-requires
-clear-requires c κs = search needs
+clear-cells-requires : tie.Need-clear-cells-requires
+clear-cells-requires c κs = let told = c .before .before in
+    omega (arith, size told, size-small (ok (table told)) (told .enum-told .given .1), start (table told) .pre .cells)
 
 enum-told-2 : tie.Need-enum-told-2
 enum-told-2 c = search needs
 
 sub-cell : tie.Need-sub-cell
-sub-cell c = omega (arith, number c)
+sub-cell c = omega (arith, number (c .before))
 
-cell-at-requires : tie.Need-cell-at-requires
-unfolding sizeOf
-cell-at-requires c κs = whole-of (ok (c .before .before .before)) {M = Cell} (c .before .enum-told2 .given .1)
-
-mul-cells : tie.Need-mul-cells
-mul-cells c = record { fits = omega (arith, number (c .before), inside (ok (c .before .before .before .before)) (c .before .before .enum-told2 .given .1), c .before .before .before .before .before .before .before .before .before .pre .cells, c .before .before .before .before .before .before .before .before .before .pre .size) }
-
-slice-write-cells : tie.Need-slice-write-cells
-slice-write-cells c = omega (arith, number (c .before), inside (ok (c .before .before .before .before)) (c .before .before .enum-told2 .given .1), c .before .before .before .before .before .before .before .before .before .pre .cells, c .before .before .before .before .before .before .before .before .before .pre .size)
+put-cell-requires : tie.Need-put-cell-requires
+put-cell-requires c κs = let told = c .before .before .before in
+    (whole-of (ok (cell told)) {M = Cell} (told .enum-told2 .given .1), omega (arith, number told, in-table told))
 
 enum-told-3 : tie.Need-enum-told-3
 enum-told-3 c = search needs
 
 operation-at-requires : tie.Need-operation-at-requires
-unfolding sizeOf
-operation-at-requires c κs = whole-of (ok (c .before .before)) {M = Operation} (c .enum-told3 .given .1)
+operation-at-requires c κs = whole-of (ok (operation c)) {M = Operation} (c .enum-told3 .given .1)
 
 mul-operations : tie.Need-mul-operations
-mul-operations c = record { fits = omega (arith, few (ok (c .before .before .before)) (c .before .enum-told3 .given .1)) }
+mul-operations c = record { fits = omega (arith, few (ok (operation (c .before))) (c .before .enum-told3 .given .1)) }
 
 slice-write-operations : tie.Need-slice-write-operations
-slice-write-operations c = omega (arith, few (ok (c .before .before .before)) (c .before .enum-told3 .given .1), c .before .before .before .before .before .before .before .before .pre .operations)
+slice-write-operations c = let m = operation (c .before) in omega (arith, few (ok m) (c .before .enum-told3 .given .1), start m .pre .operations)
 
 enum-told-4 : tie.Need-enum-told-4
 enum-told-4 c = search needs
@@ -108,7 +129,7 @@ part-copy-end-2 : tie.Need-part-copy-end-2
 part-copy-end-2 c = search needs
 
 copy-requires : tie.Need-copy-requires
-copy-requires c κs = simp (length-take, length-drop) (omega (arith, end (c .before .before), room (c .before .before), whole (c .before .before)))
+copy-requires c κs = let told = c .before .before in simp (length-take, length-drop) (omega (arith, end told, room told, whole told))
 
 enum-told-5 : tie.Need-enum-told-5
 enum-told-5 c = search needs
@@ -116,26 +137,58 @@ enum-told-5 c = search needs
 same-length : tie.Need-same-length
 same-length c = search needs
 
-returns : tie.Need-returns
-returns c = stored-table (c .before .before .before .before .before .before .before .before .before .before .before .args .file .now) (c .before .before .before .before .before .before .before .before .before .before .before .args .position) (c .before .before .before .before .before .before .mark-of .ensures) (slices (c .before .before .before .before .before .before .before .before .before .before .before)) (c .before .before .before .before .enum-told .given .1) (table-size (c .before .before .before .before .before .before .before .before .before .before .before .args .file .now) (c .before .before .before .before .before .before .before .before .before .before .before .args .position) (c .before .before .before .before .before .before .mark-of .ensures) (c .before .before .before .before .before .before .before .before .before .before .before .pre .past) (c .before .before .before .before .enum-told .given .1)) (cleared (c .before .before .before .before)) (c .before .before .clear .ensures)
-
 same-length-2 : tie.Need-same-length-2
 same-length-2 c = search needs
 
-returns-2 : tie.Need-returns-2
-returns-2 c = stored-cell (c .before .before .before .before .before .before .before .before .before .args .file .now) (c .before .before .before .before .before .before .before .before .before .args .position) (c .before .before .before .before .mark-of .ensures) (slices (c .before .before .before .before .before .before .before .before .before)) (c .before .before .enum-told2 .given .1) (omega (arith, number (c .before))) (c .cell-at .ensures)
+returns : tie.Need-returns
+returns c = let cleared = c .before .before .before .before in
+    let told = cleared .before .before .before in
+    let m = table told in
+    let s = start m in (
+      stored-table (layout s) (s .args .file .now) (s .args .position) (m .mark-of .ensures) (slices s) (told .enum-told .given .1) (size told)
+          (cleared .clear-cells .ensures .is),
+      cleared .clear-cells .ensures .other,
+    )
 
 same-length-3 : tie.Need-same-length-3
 same-length-3 c = search needs
 
-returns-3 : tie.Need-returns-3
-returns-3 c = stored-operation (c .before .before .before .before .before .before .before .before .args .file .now) (c .before .before .before .before .before .before .before .before .args .position) (c .before .before .before .mark-of .ensures) (slices (c .before .before .before .before .before .before .before .before)) (c .before .enum-told3 .given .1) (c .operation-at .ensures)
-
 same-length-4 : tie.Need-same-length-4
 same-length-4 c = search needs
 
+returns-2 : tie.Need-returns-2
+returns-2 c = let put = c .before .before .before .before in
+    let told = put .before .before .before .before in
+    let m = cell told in
+    let s = start m in (
+      stored-cell (layout s) (s .args .file .now) (s .args .position) (m .mark-of .ensures) (slices s) (told .enum-told2 .given .1)
+          (omega (arith, number told)) (put .put-cell .ensures .is),
+      put .put-cell .ensures .other,
+    )
+
+same-length-5 : tie.Need-same-length-5
+same-length-5 c = search needs
+
+returns-3 : tie.Need-returns-3
+returns-3 c = let told = c .before in
+    let m = operation told in
+    let s = start m in (
+      stored-operation (layout s) (s .args .file .now) (s .args .position) (m .mark-of .ensures) (slices s) (told .enum-told3 .given .1) (c .operation-at .ensures),
+      refl,
+    )
+
+same-length-6 : tie.Need-same-length-6
+same-length-6 c = search needs
+
 returns-4 : tie.Need-returns-4
-returns-4 c = stored-schedule (c .before .before .before .before .before .before .before .before .before .before .before .before .args .file .now) (c .before .before .before .before .before .before .before .before .before .before .before .before .args .position) (c .before .before .before .before .before .before .before .mark-of .ensures) (slices (c .before .before .before .before .before .before .before .before .before .before .before .before)) (c .before .before .before .before .before .enum-told4 .given .1) (end (c .before .before .before .before .before)) (c .before .before .copy .ensures)
+returns-4 c = let copied = c .before .before in
+    let told = copied .before .before .before in
+    let m = schedule told in
+    let s = start m in (
+      stored-schedule (layout s) (s .args .file .now) (s .args .position) (m .mark-of .ensures) (slices s) (told .enum-told4 .given .1) (end told)
+          (copied .copy .ensures),
+      refl,
+    )
 
 returns-5 : tie.Need-returns-5
 returns-5 c = absurd (is-known (ok (c .before .before)) (c .enum-told5 .given .1))
@@ -146,14 +199,10 @@ store-spec =
     (tie.spec
     mark-of-requires
     enum-told
-    slice-relend-prefix-clear
-    slice-aggregate-clear
-    clear-requires
+    clear-cells-requires
     enum-told-2
     sub-cell
-    cell-at-requires
-    mul-cells
-    slice-write-cells
+    put-cell-requires
     enum-told-3
     operation-at-requires
     mul-operations
@@ -169,11 +218,13 @@ store-spec =
     copy-requires
     enum-told-5
     same-length
-    returns
     same-length-2
-    returns-2
+    returns
     same-length-3
-    returns-3
     same-length-4
+    returns-2
+    same-length-5
+    returns-3
+    same-length-6
     returns-4
     returns-5)

@@ -1,0 +1,199 @@
+-- One record of a run file: which of its conditions decides, in table order; what holds of one that none turns away; and that run files can be
+-- scanned.
+-- Assumes nothing.
+use mathlib.Core.Path.{_≡_, refl, sym, ap, subst, _∙_}
+use Prim.Native.Nat.{ℕ, _+_, _-_, _^_, _≤_, _<_}
+use mathlib.Core.Bool.{Bool, true, false, cond, not, _||_, true≢false}
+use mathlib.Core.List.{List, [], _∷_}
+use native.Mathlib.Decide.{decLt}
+use native.Mathlib.Omega.{arith}
+use lib.Dec.{eqb, leb, ltb}
+use lib.ListN.{length, take, drop, length-drop}
+use lib.Pow.{pow-mono}
+use lib.Seq.{take-all}
+use borrow.Author.Tests.{eq-eqb, ne-eqb, lt-ltb, le-ltb, ltb-false, leb-false, not-false}
+use Rattle.semantics.specs.declared.Judged.{Judged}
+use Rattle.semantics.specs.declared.Mark.{Mark}
+use Rattle.semantics.specs.declared.Mark.the-variants.{Table, Cell, Operation, Schedule, Unknown}
+use Rattle.semantics.specs.declared.Position.{Position}
+use Rattle.semantics.specs.declared.Refusal.{Refusal}
+use Rattle.semantics.specs.Words.{sizeAllowed}
+use Rattle.semantics.specs.Refusals.{firstMet, mostOperations, mostEntries}
+use Rattle.semantics.specs.Records.{faultAt}
+use Rattle.semantics.specs.RunFile.{Layout, layoutOf, row, byteAt, pairAt, markAt, mayFollow, sizeOf, past, nextOf, runFile, judged}
+use Rattle.semantics.specs.RunFile.{conditionsOf, conditionsAt, markCut, markWrong, bodyCut, bodyWrong, oneTooMany}
+use Rattle.semantics.proofs.Conditions.{none-met, met-here, met-late, alike-number}
+use Rattle.semantics.proofs.Records.{Scannable}
+use Rattle.semantics.proofs.Parts.{Agrees, rest-agrees, pair-agrees, mark-agrees, total-agrees}
+use Rattle.semantics.proofs.Sizes.{allowed-bounds}
+use Rattle.semantics.proofs.Booleans.{same-test, compared, neither, affirmed}
+use Rattle.faults.specs.Faults.{atFront, faultOf}
+
+-- what is read of the bytes from a record on is what is read in its place
+module _ (flagged : Bool) (file : List ℕ) (p : Position) where
+  abbrev L : Layout
+  L = layoutOf flagged
+
+  abbrev rest : List ℕ
+  rest = drop (p .at) file
+
+  same : Agrees 7 rest file (p .at)
+  same = rest-agrees 7 file (p .at)
+
+  size-same : (m : Mark) → sizeOf L rest 0 m ≡ sizeOf L file (p .at) m
+  size-same m = ap (λ n. cond (row L m .counted) (n + row L m .size) (row L m .size)) (same .byte 2 (omega arith))
+
+  body-same : (m : Mark) → row L m .isWrong rest (atFront p) ≡ row L m .isWrong file p
+  body-same Table = ap (λ k. not (sizeAllowed (2 ^ k))) (same .byte 2 (omega arith))
+  body-same Cell =
+      let total = total-agrees same flagged 6 (omega arith) in
+      let number = pair-agrees same 2 (omega arith) in
+      let key = pair-agrees same 4 (omega arith) in
+      λ i. total i || ltb (number i) (p .lowest) || leb (p .size) (number i) || eqb (key i) 0
+  body-same Operation = total-agrees same flagged 5 (omega arith)
+  body-same Schedule = ap (λ n. eqb n 0) (same .byte 2 (omega arith))
+  body-same Unknown = refl
+
+  count-same : (m : Mark) → row L m .isTooMany rest (atFront p) ≡ row L m .isTooMany file p
+  count-same Table = refl
+  count-same Cell = refl
+  count-same Operation = refl
+  count-same Schedule = ap (λ n. ltb mostEntries (p .entries + n)) (same .byte 2 (omega arith))
+  count-same Unknown = refl
+
+  pub mark-is-cut : length file < p .at + 2 → 10 ≡ faultAt (runFile L) file p
+  unfolding faultAt conditionsAt markCut
+  mark-is-cut h =
+      ap (λ (r : Refusal). r .number) (sym (met-here (markCut L file p) (conditionsOf L file p (markAt L file (p .at))) (lt-ltb (length file) (p .at + 2) h)))
+
+  on-rest : p .at + 2 ≤ length file → faultOf L rest p (markAt L rest 0) ≡ faultAt (runFile L) file p
+  unfolding faultOf faultAt conditionsAt markCut markWrong bodyCut bodyWrong oneTooMany
+  on-rest whole =
+      let m = markAt L file (p .at) in
+      let here = conditionsOf L file p m in
+      let cut : ltb (length rest) (0 + sizeOf L rest 0 m) ≡ ltb (length file) (p .at + sizeOf L file (p .at) m) =
+      same-test _ _ (λ t. omega (compared, length-drop (p .at) file, size-same m)) (λ t. omega (compared, length-drop (p .at) file, size-same m)) in
+      ap (λ n. firstMet (conditionsOf L rest (atFront p) n) .number) (mark-agrees same (omega arith) L)
+      ∙ alike-number (conditionsOf L rest (atFront p) m) here (refl, refl, (refl, cut, (refl, body-same m, (refl, count-same m, tt))))
+      ∙ ap (λ (r : Refusal). r .number) (sym (met-late (markCut L file p ∷ []) here (le-ltb (length file) (p .at + 2) whole, tt)))
+
+  -- so the bytes from a whole mark on, lent as a part of the file, say why its record is turned away
+  pub by-rest : p .at + 2 ≤ length file → {m M : Mark} → m ≡ markAt L (take (length file - p .at) rest) 0 → m ≡ M → {n : ℕ}
+      → n ≡ faultOf L (take (length file - p .at) rest) p M → n ≡ faultAt (runFile L) file p
+  by-rest whole is told e =
+      let all = take-all (length file - p .at) rest (omega (arith, length-drop (p .at) file)) in
+      let mark = sym told ∙ is ∙ ap (λ l. markAt L l 0) all in
+      e ∙ (λ i. faultOf L (all i) p (mark i)) ∙ on-rest whole
+
+  -- the scan passes a record that is not turned away, and no other
+  module _ {n : ℕ} (is : n ≡ faultAt (runFile L) file p) where
+    judged-by : {b : Bool} → eqb n 0 ≡ b → judged L file p ≡ record { number = n; next = cond b (nextOf L file p) p }
+    unfolding judged
+    judged-by e = λ i. record { number = sym is i; next = cond ((ap (λ k. eqb k 0) (sym is) ∙ e) i) (nextOf L file p) p }
+
+    pub judged-passed : n ≡ 0 → {q : Position} → q ≡ nextOf L file p → record { number = 0; next = q } ≡ judged L file p
+    judged-passed z onto = sym (judged-by (eq-eqb n 0 z) ∙ (λ i. record { number = z i; next = sym onto i }))
+
+    pub judged-faulty : (n ≡ 0 → ⊥) → record { number = n; next = p } ≡ judged L file p
+    judged-faulty z = sym (judged-by (ne-eqb n 0 z))
+
+-- what the scan says of a record: why it is turned away, and the position past it if it is not
+module _ (L : Layout) (file : List ℕ) (p : Position) {j : Judged} (is : j ≡ judged L file p) where
+  pub number-said : j .number ≡ faultAt (runFile L) file p
+  unfolding judged
+  number-said = ap (λ (k : Judged). k .number) is
+
+  pub next-said : j .number ≡ 0 → j .next ≡ nextOf L file p
+  unfolding judged
+  next-said z =
+      ap (λ (k : Judged). k .next) is ∙ ap (λ b. cond b (nextOf L file p) p) (eq-eqb (faultAt (runFile L) file p) 0 (sym number-said ∙ z))
+
+-- an unknown mark may follow nothing
+pub follows-nothing : (before : ℕ) → mayFollow before 0 ≡ false
+unfolding mayFollow
+follows-nothing before = go (eqb before 0)
+  where
+    go : (b : Bool) → cond b false false ≡ false
+    go true = refl
+    go false = refl
+
+-- what holds of a record that no condition turns away
+pub record Sound (L : Layout) (file : List ℕ) (p : Position) (m : Mark) : Type 0 where
+  pub follows : mayFollow (p .part) (row L m .part) ≡ true
+  pub whole : p .at + sizeOf L file (p .at) m ≤ length file
+  pub body : row L m .isWrong file p ≡ false
+  pub room : row L m .isTooMany file p ≡ false
+
+pub sound : (L : Layout) (file : List ℕ) (p : Position) {m : Mark} → m ≡ markAt L file (p .at) → faultAt (runFile L) file p ≡ 0 → Sound L file p m
+unfolding faultAt conditionsAt markCut markWrong bodyCut bodyWrong oneTooMany
+sound L file p {m} is e =
+    let (cut, (order, (short, (wrong, (many, end))))) = none-met (conditionsAt L file p) (omega arith) e in
+    subst (Sound L file p) (sym is)
+    (record {
+      follows = not-false (mayFollow (p .part) (row L (markAt L file (p .at)) .part)) order;
+      whole = ltb-false (length file) (p .at + sizeOf L file (p .at) (markAt L file (p .at))) short;
+      body = wrong;
+      room = many;
+    })
+
+-- every record has the two bytes of its mark, and one with a known mark a third
+module _ (L : Layout) (file : List ℕ) (at : ℕ) where
+  two-bytes : (m : Mark) → 2 ≤ sizeOf L file at m
+  two-bytes Table = omega arith
+  two-bytes Cell = omega arith
+  two-bytes Operation = omega arith
+  two-bytes Schedule = omega arith
+  two-bytes Unknown = omega arith
+
+  three-bytes : (m : Mark) → (m ≡ Unknown → ⊥) → 3 ≤ sizeOf L file at m
+  three-bytes Table h = omega arith
+  three-bytes Cell h = omega arith
+  three-bytes Operation h = omega arith
+  three-bytes Schedule h = omega arith
+  three-bytes Unknown h = absurd (h refl)
+
+module _ {L : Layout} {file : List ℕ} {p : Position} {m : Mark} (s : Sound L file p m) where
+  -- what the tests of each mark say
+  pub is-known : m ≡ Unknown → ⊥
+  is-known e = true≢false (sym (s .follows) ∙ ap (λ n. mayFollow (p .part) (row L n .part)) e ∙ follows-nothing (p .part))
+
+  pub within : p .at + 3 ≤ length file
+  within = omega (arith, three-bytes L file (p .at) m is-known, s .whole)
+
+  pub whole-of : {M : Mark} → m ≡ M → p .at + sizeOf L file (p .at) M ≤ length file
+  whole-of e = subst (λ n. p .at + sizeOf L file (p .at) n ≤ length file) e (s .whole)
+
+  pub size-small : m ≡ Table → 2 ^ byteAt file (p .at + 2) ≤ 4096
+  size-small e =
+      let k = byteAt file (p .at + 2) in
+      allowed-bounds (2 ^ k) (affirmed (sizeAllowed (2 ^ k)) (ap (λ n. row L n .isWrong file p) (sym e) ∙ s .body)) .1
+
+  pub exponent : m ≡ Table → byteAt file (p .at + 2) < 13
+  exponent e = elim (decLt (byteAt file (p .at + 2)) 13) [
+    | yes h ↦ h
+    | no h ↦ let large : 2 ^ 13 ≤ 2 ^ byteAt file (p .at + 2) = pow-mono {i = 13} (omega arith) in absurd (omega (arith, size-small e))
+  ]
+
+  pub inside : m ≡ Cell → pairAt file (p .at + 2) < p .size
+  inside e =
+      let n = pairAt file (p .at + 2) in
+      let wrong = L .isTotalWrong file (p .at + 6) in
+      let (number, key) = neither (wrong || ltb n (p .lowest) || leb (p .size) n) (eqb (pairAt file (p .at + 4)) 0) (ap (λ n. row L n .isWrong file p) (sym e) ∙ s .body) in
+      leb-false (p .size) n (neither (wrong || ltb n (p .lowest)) (leb (p .size) n) number .1)
+
+  pub few : m ≡ Operation → p .operations < mostOperations
+  few e = leb-false mostOperations (p .operations) (ap (λ n. row L n .isTooMany file p) (sym e) ∙ s .room)
+
+  pub short : m ≡ Schedule → p .entries + byteAt file (p .at + 2) ≤ mostEntries
+  short e = ltb-false mostEntries (p .entries + byteAt file (p .at + 2)) (ap (λ n. row L n .isTooMany file p) (sym e) ∙ s .room)
+
+-- the position past a record is further on, so the records of a run file can be scanned
+pub scannable : (L : Layout) (file : List ℕ) → Scannable (runFile L) file
+unfolding conditionsAt markCut markWrong bodyCut bodyWrong oneTooMany nextOf past
+scannable L file =
+    record {
+      positive = λ p. omega arith;
+      placed = λ p. (refl, (refl, (refl, (refl, (refl, tt)))));
+      within = λ p e. omega (arith, within (sound L file p refl e));
+      onward = λ p e. omega (arith, two-bytes L file (p .at) (markAt L file (p .at)));
+    }

@@ -1,0 +1,56 @@
+-- `runfile::narrow_operation_at` meets its contract.
+-- Assumes nothing.
+use mathlib.Core.Path.{_∙_}
+use Prim.Native.Nat.{_+_, _*_, _^_}
+use native.Mathlib.Omega.{arith}
+use Rattle.semantics.proofs.Parts.{part-agrees, pair-agrees}
+use borrow.Author.Needs.{needs}
+use Rattle.runfile.proofs.narrow_operation_at.Statement.{statement}
+use Rattle.runfile.proofs.narrow_operation_at.Tie as tie
+
+add-record : tie.Need-add-record
+add-record c = search needs
+
+sub-record : tie.Need-sub-record
+sub-record c = search needs
+
+part-record-start : tie.Need-part-record-start
+part-record-start c = search needs
+
+part-record-end : tie.Need-part-record-end
+part-record-end c = search needs
+
+byte-at-requires : tie.Need-byte-at-requires
+byte-at-requires c κs = search needs
+
+pair-at-requires : tie.Need-pair-at-requires
+pair-at-requires c κs = search needs
+
+pair-at-requires-2 : tie.Need-pair-at-requires-2
+pair-at-requires-2 c κs = search needs
+
+operation-word-requires : tie.Need-operation-word-requires
+operation-word-requires c κs = search needs
+
+returns : tie.Need-returns
+returns c =
+    let a = c .before .before .before .before .before .before .args in
+    let same = part-agrees 7 (a .file .now) (a .at) in
+    let kind = c .before .before .before .byte-at .ensures ∙ same .byte 2 (omega arith) in
+    let key = c .before .before .pair-at .ensures ∙ pair-agrees same 3 (omega arith) in
+    let amount = c .before .pair-at2 .ensures ∙ pair-agrees same 5 (omega arith) in
+    c .operation-word .ensures ∙ (λ i. kind i * 2 ^ 32 + key i * 65536 + amount i)
+
+pub narrow-operation-at-spec : {M : Type 1} → statement M
+narrow-operation-at-spec =
+    tie.close
+    (tie.spec
+    add-record
+    sub-record
+    part-record-start
+    part-record-end
+    byte-at-requires
+    pair-at-requires
+    pair-at-requires-2
+    operation-word-requires
+    returns)

@@ -1,0 +1,21 @@
+-- `runfile::scan::file_refusal` meets its contract.
+-- Assumes nothing.
+use native.Mathlib.Omega.{arith}
+use Rattle.semantics.specs.RunFile.{layoutOf}
+use Rattle.runfile.proofs.Refused.{file-is-long, by-records}
+use borrow.Author.Needs.{needs}
+use Rattle.runfile.proofs.scan.file_refusal.Statement.{statement}
+use Rattle.runfile.proofs.scan.file_refusal.Tie as tie
+
+returns : tie.Need-returns
+returns c = let a = c .before .before .args in file-is-long (layoutOf (a .flagged)) (a .file .now) (omega (arith, c .if1 .taken))
+
+first-fault-requires : tie.Need-first-fault-requires
+first-fault-requires c κs = search needs
+
+returns-2 : tie.Need-returns-2
+returns-2 c = let a = c .before .before .before .args in
+    by-records (layoutOf (a .flagged)) (a .file .now) (omega (arith, c .before .if1 .left)) (c .first-fault .ensures)
+
+pub file-refusal-spec : {M : Type 1} → statement M
+file-refusal-spec = tie.close (tie.spec returns first-fault-requires returns-2)

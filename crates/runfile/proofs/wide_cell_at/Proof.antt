@@ -1,0 +1,63 @@
+-- `runfile::wide_cell_at` meets its contract.
+-- Assumes nothing.
+use mathlib.Core.Path.{ap₂, _∙_}
+use native.Mathlib.Omega.{arith}
+use Rattle.semantics.specs.Wide.{wideCellWord}
+use Rattle.semantics.proofs.Parts.{part-agrees, inner-agrees, pair-agrees, flagged-agrees}
+use borrow.Author.Needs.{needs}
+use Rattle.runfile.proofs.wide_cell_at.Statement.{statement}
+use Rattle.runfile.proofs.wide_cell_at.Tie as tie
+
+add-record : tie.Need-add-record
+add-record c = search needs
+
+sub-record : tie.Need-sub-record
+sub-record c = search needs
+
+part-record-start : tie.Need-part-record-start
+part-record-start c = search needs
+
+part-record-end : tie.Need-part-record-end
+part-record-end c = search needs
+
+pair-at-requires : tie.Need-pair-at-requires
+pair-at-requires c κs = search needs
+
+sub-total-of : tie.Need-sub-total-of
+sub-total-of c = search needs
+
+part-total-of-start : tie.Need-part-total-of-start
+part-total-of-start c = search needs
+
+part-total-of-end : tie.Need-part-total-of-end
+part-total-of-end c = search needs
+
+total-of-requires : tie.Need-total-of-requires
+total-of-requires c κs = search needs
+
+wide-cell-word-requires : tie.Need-wide-cell-word-requires
+wide-cell-word-requires c κs = search needs
+
+returns : tie.Need-returns
+returns c =
+    let a = c .before .before .before .before .before .before .args in
+    let same = part-agrees 11 (a .file .now) (a .at) in
+    let total = flagged-agrees (inner-agrees same 5 6 (omega arith)) in
+    c .wide-cell-word .ensures
+    ∙ ap₂ wideCellWord (c .before .before .before .pair-at .ensures ∙ pair-agrees same 4 (omega arith)) (c .before .total-of .ensures ∙ total)
+
+pub wide-cell-at-spec : {M : Type 1} → statement M
+wide-cell-at-spec =
+    tie.close
+    (tie.spec
+    add-record
+    sub-record
+    part-record-start
+    part-record-end
+    pair-at-requires
+    sub-total-of
+    part-total-of-start
+    part-total-of-end
+    total-of-requires
+    wide-cell-word-requires
+    returns)

@@ -1,0 +1,68 @@
+-- `runfile::wide_operation_at` meets its contract.
+-- Assumes nothing.
+use mathlib.Core.Path.{_∙_}
+use native.Mathlib.Omega.{arith}
+use Rattle.semantics.specs.Wide.{wideOperationWord}
+use Rattle.semantics.proofs.Parts.{part-agrees, inner-agrees, pair-agrees, flagged-agrees}
+use borrow.Author.Needs.{needs}
+use Rattle.runfile.proofs.wide_operation_at.Statement.{statement}
+use Rattle.runfile.proofs.wide_operation_at.Tie as tie
+
+add-record : tie.Need-add-record
+add-record c = search needs
+
+sub-record : tie.Need-sub-record
+sub-record c = search needs
+
+part-record-start : tie.Need-part-record-start
+part-record-start c = search needs
+
+part-record-end : tie.Need-part-record-end
+part-record-end c = search needs
+
+byte-at-requires : tie.Need-byte-at-requires
+byte-at-requires c κs = search needs
+
+pair-at-requires : tie.Need-pair-at-requires
+pair-at-requires c κs = search needs
+
+sub-total-of : tie.Need-sub-total-of
+sub-total-of c = search needs
+
+part-total-of-start : tie.Need-part-total-of-start
+part-total-of-start c = search needs
+
+part-total-of-end : tie.Need-part-total-of-end
+part-total-of-end c = search needs
+
+total-of-requires : tie.Need-total-of-requires
+total-of-requires c κs = search needs
+
+wide-operation-word-requires : tie.Need-wide-operation-word-requires
+wide-operation-word-requires c κs = search needs
+
+returns : tie.Need-returns
+returns c =
+    let a = c .before .before .before .before .before .before .before .args in
+    let same = part-agrees 10 (a .file .now) (a .at) in
+    let kind = c .before .before .before .before .byte-at .ensures ∙ same .byte 2 (omega arith) in
+    let key = c .before .before .before .pair-at .ensures ∙ pair-agrees same 3 (omega arith) in
+    let amount = c .before .total-of .ensures ∙ flagged-agrees (inner-agrees same 5 5 (omega arith)) in
+    c .wide-operation-word .ensures ∙ (λ i. wideOperationWord (kind i) (key i) (amount i))
+
+pub wide-operation-at-spec : {M : Type 1} → statement M
+wide-operation-at-spec =
+    tie.close
+    (tie.spec
+    add-record
+    sub-record
+    part-record-start
+    part-record-end
+    byte-at-requires
+    pair-at-requires
+    sub-total-of
+    part-total-of-start
+    part-total-of-end
+    total-of-requires
+    wide-operation-word-requires
+    returns)
