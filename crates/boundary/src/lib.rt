@@ -3,8 +3,9 @@
 // decided here: each function is the one that it calls, with the equation that function promises.
 ghost use mathlib.Core.Path.{_≡_};
 ghost use Rattle.semantics.specs.Response.{response};
+ghost use Rattle.semantics.specs.Narrow.{narrowWidth};
 ghost use Rattle.semantics.specs.Run.{runResult};
-ghost use Rattle.semantics.specs.RunFile.{reading};
+ghost use Rattle.semantics.specs.RunFile.{narrowFile, reading};
 ghost use Rattle.semantics.specs.Text.{handed};
 use semantics::Loaded;
 use semantics::Outcome;
@@ -19,7 +20,7 @@ pub extern "C" fn room_run(
     answers: &mut [u32],
     log: &mut [u8],
 ) -> Outcome
-    ensures { λ r. ⌜ runResult (now (cells .entry)) (now (operations .entry)) (now (schedule .entry)) (now (answers .entry)) (now (log .entry))
+    ensures { λ r. ⌜ runResult narrowWidth (now (cells .entry)) (now (operations .entry)) (now (schedule .entry)) (now (answers .entry)) (now (log .entry))
         ≡ record { outcome = r; cells = now (cells .exit); answers = now (answers .exit); log = now (log .exit) } ⌝ }
 {
     run::run(cells, operations, schedule, answers, log)
@@ -33,7 +34,7 @@ pub extern "C" fn room_load(
     operations: &mut [u64],
     schedule: &mut [u8],
 ) -> Loaded
-    ensures { λ r. ⌜ reading (now (file .entry)) (now (cells .entry)) (now (operations .entry)) (now (schedule .entry))
+    ensures { λ r. ⌜ reading narrowFile (now (file .entry)) (now (cells .entry)) (now (operations .entry)) (now (schedule .entry))
         ≡ record { loaded = r; cells = now (cells .exit); operations = now (operations .exit); schedule = now (schedule .exit) } ⌝ }
 {
     runfile::load(file, cells, operations, schedule)

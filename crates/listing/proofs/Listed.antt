@@ -1,13 +1,19 @@
 -- The lines of a text, written one after another, are the text.
 -- Assumes nothing.
-use mathlib.Core.Path.{_≡_}
-use Prim.Native.Nat.{ℕ, min}
-use mathlib.Core.List.{List, _++_}
+use mathlib.Core.Path.{_≡_, sym, ap₂, subst, _∙_}
+use Prim.Native.Nat.{ℕ, min, _≤_}
+use mathlib.Core.Bool.{Bool, true, false}
+use mathlib.Core.List.{List, [], _++_, append-nil}
+use native.Mathlib.Omega.{arith}
 use lib.ListN.{length, getD}
 use borrow.Author.Tests.{eq-eqb, ne-eqb}
 use Rattle.semantics.specs.declared.Outcome.{Outcome}
-use Rattle.semantics.specs.Text.{text, decimal, textsBelow}
-use Rattle.semantics.specs.Listing.{lineEnd, refusalText, countsText, rowText, logText, cellText, runText, listing}
+use Rattle.semantics.specs.declared.Total.{Total}
+use Rattle.semantics.specs.Words.{Width}
+use Rattle.semantics.specs.Narrow.{narrowWidth}
+use Rattle.semantics.specs.Text.{text, decimal, textsBelow, mostText, Handed, handed}
+use Rattle.semantics.specs.Listing.{narrowText, lineEnd, refusalText, countsText, rowText, logText, cellText, runText, listing}
+use Rattle.semantics.specs.Widths.{mostTextOf}
 use Rattle.text.specs.Writing.{Writing, written}
 use Rattle.text.proofs.Writing.{next}
 
@@ -17,16 +23,36 @@ module _ (w : Writing) where
   unfolding logText
   log-line done log e f g = next w _ lineEnd (next w (text "log") _ e f) g
 
-  module _ (outcome : Outcome) (operations answers log cells : List ℕ) where
+  module _ (W : Width) (totalText : Total → List ℕ) (outcome : Outcome) (operations answers log cells : List ℕ) where
     pub run-lines : {a b c v : Writing} → outcome .number ≡ 0 → written w (countsText (length operations) outcome) ≡ a
-        → written a (textsBelow (length operations) (λ i. rowText i (getD operations i 0) (getD answers i 0))) ≡ b
-        → written b (logText (outcome .done) log) ≡ c → written c (textsBelow (length cells) (λ i. cellText i (getD cells i 0))) ≡ v
-        → written w (listing outcome operations answers log cells) ≡ v
+        → written a (textsBelow (length operations) (λ i. rowText W totalText i (getD operations i 0) (getD answers i 0))) ≡ b
+        → written b (logText (outcome .done) log) ≡ c → written c (textsBelow (length cells) (λ i. cellText W totalText i (getD cells i 0))) ≡ v
+        → written w (listing W totalText outcome operations answers log cells) ≡ v
     unfolding listing runText
     run-lines is e f g h =
         rw (eq-eqb (outcome .number) 0 is) (next w _ _ (next w _ (logText (outcome .done) log) (next w _ _ e f) g) h)
 
     pub one-line : {v : Writing} → (outcome .number ≡ 0 → ⊥) → written w (refusalText (outcome .number) (outcome .place)) ≡ v
-        → written w (listing outcome operations answers log cells) ≡ v
+        → written w (listing W totalText outcome operations answers log cells) ≡ v
     unfolding listing
     one-line other e = rw (ne-eqb (outcome .number) 0 other) e
+
+-- a narrow run lends nothing wide
+pub narrow-alone : (outcome : Outcome) (operations answers log cells out : List ℕ) {h : Handed}
+    → handed (listing narrowWidth narrowText outcome operations (answers ++ []) log (cells ++ [])) out ≡ h
+    → handed (listing narrowWidth narrowText outcome operations answers log cells) out ≡ h
+narrow-alone outcome operations answers log cells out e =
+    ap₂ (λ (a c : List ℕ). handed (listing narrowWidth narrowText outcome operations a log c) out) (sym (append-nil answers)) (sym (append-nil cells)) ∙ e
+
+-- the width that a test chose: what is enough for it, and that it is not the other
+module _ {wide : Bool} where
+  pub wide-enough : wide ≡ true → mostTextOf wide ≤ 151552
+  unfolding mostTextOf
+  wide-enough is = subst (λ (b : Bool). mostTextOf b ≤ 151552) (sym is) (omega arith)
+
+  pub narrow-enough : wide ≡ false → mostTextOf wide ≤ mostText
+  unfolding mostTextOf
+  narrow-enough is = subst (λ (b : Bool). mostTextOf b ≤ mostText) (sym is) (omega arith)
+
+  pub not-narrow : {A : Type 0} → wide ≡ true → wide ≡ false → A
+  not-narrow is other = absurd (let z : _≡_ {A = ℕ} 0 1 = cc in omega arith)

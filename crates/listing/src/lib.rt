@@ -1,16 +1,21 @@
 // The text of a run (document 01, "A run in full"): the counts, a line for each operation with its
 // answer, the log, and a line for each cell that is not empty; or the line of a refusal. Each
 // function writes a part into a lent slice from a position on and returns the position after it, as
-// the writer of the crate text does: past the slice's end bytes are counted and stored nowhere.
+// the writer of the crate text does: past the slice's end bytes are counted and stored nowhere. One
+// listing serves both widths: answers and cells are lent as two slices each, of which one is empty, and a
+// flag says by which layout words are read and how totals are written.
 ghost use mathlib.Core.Path.{_≡_};
 ghost use mathlib.Core.List.{_++_};
-ghost use Prim.Native.Nat.{_≤_, _<_, min};
+ghost use Prim.Native.Nat.{_+_, _≤_, _<_, min};
+ghost use mathlib.Core.Bool.{false};
 ghost use lib.Dec.{leb};
 ghost use lib.ListN.{length, getD};
-ghost use Rattle.semantics.specs.Text.{text, decimal, textsBelow, mostText, handed};
+ghost use Rattle.semantics.specs.Text.{text, decimal, textsBelow, handed};
 ghost use Rattle.semantics.specs.Refusals.{mostOperations};
 ghost use Rattle.semantics.specs.RunFile.{mostCells};
-ghost use Rattle.semantics.specs.Listing.{logText, listing};
+ghost use Rattle.semantics.specs.Narrow.{narrowWidth};
+ghost use Rattle.semantics.specs.Listing.{narrowText, logText, listing};
+ghost use Rattle.semantics.specs.Widths.{widthOf, textOf, mostTextOf};
 ghost use Rattle.text.specs.Writing.{lastPosition, written};
 use cell_lines::put_cells;
 use lines::put_counts;
@@ -19,6 +24,7 @@ use row_lines::put_rows;
 use semantics::MOST_CELLS;
 use semantics::MOST_OPERATIONS;
 use semantics::MOST_TEXT;
+use semantics::MOST_WIDE_TEXT;
 use semantics::Outcome;
 use semantics::Written;
 use text::LAST_POSITION;
@@ -63,31 +69,46 @@ fn put_listing(
     out: &mut [u8],
     outcome: Outcome,
     operations: &[u64],
-    answers: &[u32],
+    answers32: &[u32],
+    answers64: &[u64],
     log: &[u8],
-    cells: &[u32],
+    cells32: &[u32],
+    cells64: &[u64],
+    wide: bool,
 ) -> usize
-    ensures { λ r. ⌜ written (record { at = 0; out = now (out .entry) }) (listing outcome (now (operations .entry)) (now (answers .entry)) (now (log .entry)) (now (cells .entry)))
+    ensures { λ r. ⌜ written (record { at = 0; out = now (out .entry) })
+        (listing (widthOf wide) (textOf wide) outcome (now (operations .entry)) (now (answers32 .entry) ++ now (answers64 .entry)) (now (log .entry)) (now (cells32 .entry) ++ now (cells64 .entry)))
         ≡ record { at = r; out = now (out .exit) } ⌝ }
 {
     if outcome.number == 0 {
         let at1 = put_counts(out, 0, operations.len(), outcome);
-        let at2 = put_rows(out, at1, operations, answers);
+        let at2 = put_rows(out, at1, operations, answers32, answers64, wide);
         let at3 = put_log(out, at2, outcome.done, log);
-        return put_cells(out, at3, cells);
+        return put_cells(out, at3, cells32, cells64, wide);
     }
     put_refusal(out, 0, outcome.number, outcome.place)
 }
 
 // A length that no text of so many operations, log bytes and cells exceeds; where none is known, one
-// that no slice has.
-fn most_bytes(operations: usize, log: usize, cells: usize) -> usize
-    ensures { λ r. ⌜ (r < lastPosition → (mostText ≤ r) × (operations ≤ mostOperations) × (log ≤ mostOperations) × (cells ≤ mostCells)) ⌝ }
+// that no slice has. None is where the slice of the other width is not empty: its words may have longer
+// keys than those of this one.
+fn most_bytes(operations: usize, log: usize, cells32: usize, cells64: usize, wide: bool) -> usize
+    ensures { λ r. ⌜ (r < lastPosition → (mostTextOf wide ≤ r) × (operations ≤ mostOperations) × (log ≤ mostOperations) × (cells32 + cells64 ≤ mostCells) × (wide ≡ false → cells64 ≡ 0)) ⌝ }
 {
     if operations <= MOST_OPERATIONS {
         if log <= MOST_OPERATIONS {
-            if cells <= MOST_CELLS {
-                return MOST_TEXT;
+            if wide {
+                if cells32 == 0 {
+                    if cells64 <= MOST_CELLS {
+                        return MOST_WIDE_TEXT;
+                    }
+                }
+                return LAST_POSITION;
+            }
+            if cells64 == 0 {
+                if cells32 <= MOST_CELLS {
+                    return MOST_TEXT;
+                }
             }
         }
     }
@@ -99,23 +120,93 @@ fn most_bytes(operations: usize, log: usize, cells: usize) -> usize
 fn has_room(
     outcome: Outcome,
     operations: &[u64],
-    answers: &[u32],
+    answers32: &[u32],
+    answers64: &[u64],
     log: &[u8],
-    cells: &[u32],
+    cells32: &[u32],
+    cells64: &[u64],
+    wide: bool,
     room: usize,
 ) -> bool
     requires { ⌜ room < lastPosition ⌝ }
-    ensures { λ r. ⌜ r ≡ leb (length (listing outcome (now (operations .entry)) (now (answers .entry)) (now (log .entry)) (now (cells .entry)))) room ⌝ }
+    ensures { λ r. ⌜ r ≡ leb (length (listing (widthOf wide) (textOf wide) outcome (now (operations .entry)) (now (answers32 .entry) ++ now (answers64 .entry)) (now (log .entry)) (now (cells32 .entry) ++ now (cells64 .entry)))) room ⌝ }
 {
-    if most_bytes(operations.len(), log.len(), cells.len()) <= room {
+    let most = most_bytes(
+        operations.len(),
+        log.len(),
+        cells32.len(),
+        cells64.len(),
+        wide,
+    );
+    if most <= room {
         return true;
     }
     let mut probe = [0u8; 1];
-    put_listing(&mut probe, outcome, operations, answers, log, cells) <= room
+    let length = put_listing(
+        &mut probe,
+        outcome,
+        operations,
+        answers32,
+        answers64,
+        log,
+        cells32,
+        cells64,
+        wide,
+    );
+    length <= room
 }
 
 // Writes the text of what a run returned, with its operations and what it left: whole, over the
 // front of the slice, or not at all if the slice is too short.
+fn list_lent(
+    outcome: Outcome,
+    operations: &[u64],
+    answers32: &[u32],
+    answers64: &[u64],
+    log: &[u8],
+    cells32: &[u32],
+    cells64: &[u64],
+    wide: bool,
+    out: &mut [u8],
+) -> Written
+    ensures { λ r. ⌜ handed (listing (widthOf wide) (textOf wide) outcome (now (operations .entry)) (now (answers32 .entry) ++ now (answers64 .entry)) (now (log .entry)) (now (cells32 .entry) ++ now (cells64 .entry))) (now (out .entry))
+        ≡ record { written = r; out = now (out .exit) } ⌝ }
+{
+    if has_room(
+        outcome,
+        operations,
+        answers32,
+        answers64,
+        log,
+        cells32,
+        cells64,
+        wide,
+        out.len(),
+    ) {
+        return Written {
+            number: 0,
+            place: 0,
+            length: put_listing(
+                out,
+                outcome,
+                operations,
+                answers32,
+                answers64,
+                log,
+                cells32,
+                cells64,
+                wide,
+            ),
+        };
+    }
+    Written {
+        number: 3,
+        place: 0,
+        length: 0,
+    }
+}
+
+// The same of a narrow run: nothing wide is lent.
 pub fn list(
     outcome: Outcome,
     operations: &[u64],
@@ -124,19 +215,19 @@ pub fn list(
     cells: &[u32],
     out: &mut [u8],
 ) -> Written
-    ensures { λ r. ⌜ handed (listing outcome (now (operations .entry)) (now (answers .entry)) (now (log .entry)) (now (cells .entry))) (now (out .entry))
+    ensures { λ r. ⌜ handed (listing narrowWidth narrowText outcome (now (operations .entry)) (now (answers .entry)) (now (log .entry)) (now (cells .entry))) (now (out .entry))
         ≡ record { written = r; out = now (out .exit) } ⌝ }
 {
-    if has_room(outcome, operations, answers, log, cells, out.len()) {
-        return Written {
-            number: 0,
-            place: 0,
-            length: put_listing(out, outcome, operations, answers, log, cells),
-        };
-    }
-    Written {
-        number: 3,
-        place: 0,
-        length: 0,
-    }
+    let none = [0u64; 0];
+    list_lent(
+        outcome,
+        operations,
+        answers,
+        &none,
+        log,
+        cells,
+        &none,
+        false,
+        out,
+    )
 }

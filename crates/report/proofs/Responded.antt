@@ -12,28 +12,31 @@ use borrow.Author.Tests.{eqb-false, ne-eqb, leb-true, leb-false}
 use Rattle.io.specs.Counts.{Counts}
 use Rattle.semantics.specs.declared.Outcome.{Outcome}
 use Rattle.semantics.specs.declared.Refusal.{Refusal}
+use Rattle.semantics.specs.declared.Total.{Total}
+use Rattle.semantics.specs.Words.{Width}
+use Rattle.semantics.specs.Narrow.{narrowWidth}
 use Rattle.semantics.specs.Refusals.{mostOperations, mostEntries}
 use Rattle.semantics.specs.Run.{Result, over}
 use Rattle.semantics.specs.Text.{mostText, Handed, handed}
-use Rattle.semantics.specs.RunFile.{Contents, Reading, contents, mostCells, readerRefusal, acceptedReading, refusedReading, reading}
-use Rattle.semantics.specs.Listing.{listing, refusalText}
+use Rattle.semantics.specs.RunFile.{Contents, Reading, narrowFile, contents, mostCells, readerRefusal, acceptedReading, refusedReading, reading}
+use Rattle.semantics.specs.Listing.{narrowText, listing, refusalText}
 use Rattle.semantics.specs.Response.{runOf, listed, response}
 use Rattle.semantics.proofs.Over.{over-length}
 use Rattle.semantics.proofs.Bounded.{bounded}
 use Rattle.runfile.proofs.Filled.{counts-front}
 
--- what a run left, listed
-pub run-listed : (operations out : List ℕ) {result left : Result} {h : Handed} → result ≡ left
-    → handed (listing (left .outcome) operations (left .answers) (left .log) (left .cells)) out ≡ h → handed (listed operations result) out ≡ h
-unfolding listed
-run-listed operations out is e = ap (λ (r : Result). handed (listed operations r) out) is ∙ e
+-- what a run left, listed; and a refusal, listed with anything
+module _ (W : Width) (totalText : Total → List ℕ) where
+  pub run-listed : (operations out : List ℕ) {result left : Result} {h : Handed} → result ≡ left
+      → handed (listing W totalText (left .outcome) operations (left .answers) (left .log) (left .cells)) out ≡ h → handed (listed W totalText operations result) out ≡ h
+  unfolding listed
+  run-listed operations out is e = ap (λ (r : Result). handed (listed W totalText operations r) out) is ∙ e
 
--- a refusal, listed with anything
-pub refusal-listed : (number place : ℕ) (operations answers log cells : List ℕ) → (number ≡ 0 → ⊥) → {o : Outcome}
-    → o ≡ record { number = number; place = place; done = 0; lost = 0; idle = 0 } → refusalText number place ≡ listing o operations answers log cells
-unfolding listing
-refusal-listed number place operations answers log cells h is =
-    subst (λ (o : Outcome). refusalText number place ≡ listing o operations answers log cells) (sym is) (rw (ne-eqb number 0 h))
+  pub refusal-listed : (number place : ℕ) (operations answers log cells : List ℕ) → (number ≡ 0 → ⊥) → {o : Outcome}
+      → o ≡ record { number = number; place = place; done = 0; lost = 0; idle = 0 } → refusalText number place ≡ listing W totalText o operations answers log cells
+  unfolding listing
+  refusal-listed number place operations answers log cells h is =
+      subst (λ (o : Outcome). refusalText number place ≡ listing W totalText o operations answers log cells) (sym is) (rw (ne-eqb number 0 h))
 
 take-over : (written old : List ℕ) → take (length written) (over written old) ≡ written
 unfolding over
@@ -53,34 +56,38 @@ unfolding acceptedReading
 parts-back h cells operations schedule = λ i.
     record { cells = take-over (h .cells) cells i; operations = take-over (h .operations) operations i; schedule = take-over (h .schedule) schedule i }
 
+-- the text of the run of what a file holds
+abbrev narrowListed : Contents → List ℕ
+narrowListed h = listed narrowWidth narrowText (h .operations) (runOf narrowWidth h)
+
 -- the response to a file that was read into slices of the lengths that the reader asks for
 module _ (file : List ℕ) where
   abbrev refusal : Refusal
-  refusal = readerRefusal file mostCells mostOperations mostEntries
+  refusal = readerRefusal narrowFile file mostCells mostOperations mostEntries
 
   responds : (z : Bool) → eqb (refusal .number) 0 ≡ z
-      → response file ≡ cond z (listed (contents file .operations) (runOf (contents file))) (refusalText (refusal .number) (refusal .place))
+      → response file ≡ cond z (narrowListed (contents narrowFile file)) (refusalText (refusal .number) (refusal .place))
   unfolding response
-  responds z e = ap (λ z. cond z (listed (contents file .operations) (runOf (contents file))) (refusalText (refusal .number) (refusal .place))) e
+  responds z e = ap (λ z. cond z (narrowListed (contents narrowFile file)) (refusalText (refusal .number) (refusal .place))) e
 
   -- what the response is, from what the reader left
   unfoldable pub Answers : Reading → Type 0
   Answers left =
-      (left .loaded .number ≡ 0 → response file ≡ listed (parts left .operations) (runOf (parts left)))
+      (left .loaded .number ≡ 0 → response file ≡ narrowListed (parts left))
       × ((left .loaded .number ≡ 0 → ⊥) → response file ≡ refusalText (left .loaded .number) (left .loaded .place))
 
   pub answers : (cells operations schedule : List ℕ) → length cells ≡ mostCells → length operations ≡ mostOperations → length schedule ≡ mostEntries
-      → Answers (reading file cells operations schedule)
+      → Answers (reading narrowFile file cells operations schedule)
   unfolding Answers response reading acceptedReading refusedReading
   answers cells operations schedule a b d =
-      let same : readerRefusal file (length cells) (length operations) (length schedule) ≡ refusal = λ i. readerRefusal file (a i) (b i) (d i) in
-      subst (λ (r : Refusal). Answers (cond (eqb (r .number) 0) (acceptedReading (contents file) cells operations schedule) (refusedReading r cells operations schedule)))
+      let same : readerRefusal narrowFile file (length cells) (length operations) (length schedule) ≡ refusal = λ i. readerRefusal narrowFile file (a i) (b i) (d i) in
+      subst (λ (r : Refusal). Answers (cond (eqb (r .number) 0) (acceptedReading (contents narrowFile file) cells operations schedule) (refusedReading r cells operations schedule)))
       (sym same) (go (eqb (refusal .number) 0) refl)
     where
       go : (z : Bool) → eqb (refusal .number) 0 ≡ z
-          → Answers (cond z (acceptedReading (contents file) cells operations schedule) (refusedReading refusal cells operations schedule))
+          → Answers (cond z (acceptedReading (contents narrowFile file) cells operations schedule) (refusedReading refusal cells operations schedule))
       go true e = (
-        λ n. responds true e ∙ ap (λ (h : Contents). listed (h .operations) (runOf h)) (sym (parts-back (contents file) cells operations schedule)),
+        λ n. responds true e ∙ ap narrowListed (sym (parts-back (contents narrowFile file) cells operations schedule)),
         λ n. absurd (n refl),
       )
       go false e = (λ n. absurd (eqb-false (refusal .number) 0 e n), λ n. responds false e)

@@ -4,8 +4,10 @@ ghost use mathlib.Core.Path.{_≡_};
 ghost use Prim.Native.Nat.{_≤_};
 ghost use lib.ListN.{length};
 ghost use Rattle.io.specs.Counts.{Counts};
+ghost use Rattle.semantics.specs.Narrow.{narrowWidth};
 ghost use Rattle.semantics.specs.Run.{runResult};
 ghost use Rattle.semantics.specs.Text.{mostText, handed};
+ghost use Rattle.semantics.specs.Listing.{narrowText};
 ghost use Rattle.semantics.specs.Response.{listed, response};
 use listing::list;
 use outcome::refused;
@@ -25,7 +27,7 @@ fn run_and_list(
     log: &mut [u8],
     out: &mut [u8],
 ) -> Written
-    ensures { λ r. ⌜ handed (listed (now (operations .entry)) (runResult (now (cells .entry)) (now (operations .entry)) (now (schedule .entry)) (now (answers .entry)) (now (log .entry)))) (now (out .entry))
+    ensures { λ r. ⌜ handed (listed narrowWidth narrowText (now (operations .entry)) (runResult narrowWidth (now (cells .entry)) (now (operations .entry)) (now (schedule .entry)) (now (answers .entry)) (now (log .entry)))) (now (out .entry))
         ≡ record { written = r; out = now (out .exit) } ⌝ }
 {
     let outcome = run(cells, operations, schedule, answers, log);

@@ -1,34 +1,37 @@
--- The parts of an operation's line, written one after another, are the line.
+-- The parts of an operation's line, written one after another, are the line, at any width.
 -- Assumes nothing.
-use mathlib.Core.Path.{_≡_}
-use Prim.Native.Nat.{ℕ, _/_, _%_}
-use mathlib.Core.List.{_++_, append-assoc}
-use Rattle.semantics.specs.Words.{kindBits, operationKey, amountBits}
+use mathlib.Core.Path.{_≡_, ap₂}
+use Prim.Native.Nat.{ℕ}
+use mathlib.Core.List.{List, _++_, append-assoc}
+use Rattle.semantics.specs.declared.Total.{Total}
+use Rattle.semantics.specs.Words.{Width}
 use Rattle.semantics.specs.Text.{text, decimal}
-use Rattle.semantics.specs.Listing.{kindWord, codeWord, totalText, lineEnd, operationText, answerText, rowText}
+use Rattle.semantics.specs.Listing.{kindWord, codeWord, lineEnd, operationText, answerText, rowText}
 use Rattle.text.specs.Writing.{Writing, written}
 use Rattle.text.proofs.Writing.{same-text, next, next-labelled}
 
-module _ (w : Writing) where
-  pub amount-part : {a v : Writing} (operation : ℕ) {key amount : ℕ} → key ≡ operationKey operation → amount ≡ amountBits operation
+module _ (W : Width) (totalText : Total → List ℕ) (w : Writing) where
+  pub amount-part : {a v : Writing} (operation : ℕ) {key : ℕ} {amount : Total} → key ≡ W .operationKey operation → amount ≡ W .amountIn operation
       → written w (text " " ++ decimal key) ≡ a → written a (text " " ++ totalText amount) ≡ v
-      → written w (text " " ++ decimal (operationKey operation) ++ text " " ++ totalText (amountBits operation)) ≡ v
-  amount-part operation {key} {amount} p q e f = rw (← p, ← q) (next-labelled w _ (text " ") (totalText amount) e f)
+      → written w (text " " ++ decimal (W .operationKey operation) ++ text " " ++ totalText (W .amountIn operation)) ≡ v
+  amount-part operation {key} {amount} p q e f =
+      same-text w (ap₂ (λ (k : ℕ) (t : Total). text " " ++ decimal k ++ text " " ++ totalText t) p q) (next-labelled w _ (text " ") (totalText amount) e f)
 
-  pub operation-part : {a b v : Writing} (i operation : ℕ) {kind : ℕ} → kind ≡ kindBits operation → written w (text "row " ++ decimal i) ≡ a
+  pub operation-part : {a b v : Writing} (i operation : ℕ) {kind : ℕ} → kind ≡ W .kindBits operation → written w (text "row " ++ decimal i) ≡ a
       → written a (text " " ++ kindWord kind) ≡ b
-      → written b (text " " ++ decimal (operationKey operation) ++ text " " ++ totalText (amountBits operation)) ≡ v
-      → written w (operationText i operation) ≡ v
+      → written b (text " " ++ decimal (W .operationKey operation) ++ text " " ++ totalText (W .amountIn operation)) ≡ v
+      → written w (operationText W totalText i operation) ≡ v
   unfolding operationText
   operation-part i operation {kind} p e f g =
       rw (← p) (same-text w (simp append-assoc) (next w _ _ (next-labelled w _ (text " ") (kindWord kind) e f) g))
 
-  pub answer-part : {a v : Writing} (answer : ℕ) {code total : ℕ} → code ≡ answer / 65536 → total ≡ answer % 65536
-      → written w (text " " ++ codeWord code) ≡ a → written a (text " " ++ totalText total) ≡ v → written w (answerText answer) ≡ v
+  pub answer-part : {a v : Writing} (answer : ℕ) {code : ℕ} {total : Total} → code ≡ W .answerCode answer → total ≡ W .answerTotal answer
+      → written w (text " " ++ codeWord code) ≡ a → written a (text " " ++ totalText total) ≡ v → written w (answerText W totalText answer) ≡ v
   unfolding answerText
-  answer-part answer {code} {total} p q e f = rw (← p, ← q) (next-labelled w _ (text " ") (totalText total) e f)
+  answer-part answer {code} {total} p q e f =
+      same-text w (ap₂ (λ (n : ℕ) (t : Total). text " " ++ codeWord n ++ text " " ++ totalText t) p q) (next-labelled w _ (text " ") (totalText total) e f)
 
-  pub row-line : {a b v : Writing} (i operation answer : ℕ) → written w (operationText i operation) ≡ a
-      → written a (answerText answer) ≡ b → written b lineEnd ≡ v → written w (rowText i operation answer) ≡ v
+  pub row-line : {a b v : Writing} (i operation answer : ℕ) → written w (operationText W totalText i operation) ≡ a
+      → written a (answerText W totalText answer) ≡ b → written b lineEnd ≡ v → written w (rowText W totalText i operation answer) ≡ v
   unfolding rowText
-  row-line i operation answer e f g = next w _ lineEnd (next w _ (answerText answer) e f) g
+  row-line i operation answer e f g = next w _ lineEnd (next w _ (answerText W totalText answer) e f) g

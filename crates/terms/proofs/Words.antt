@@ -1,18 +1,21 @@
 -- Words: their letters, and those of kinds, codes and totals by the number.
 -- Assumes nothing.
-use mathlib.Core.Path.{_≡_, refl, ap, _∙_}
-use Prim.Native.Nat.{ℕ, zero, suc, _+_, _-_, _*_, _≤_, _<_}
+use mathlib.Core.Path.{_≡_, refl, sym, ap, _∙_}
+use Prim.Native.Nat.{ℕ, zero, suc, _+_, _-_, _*_, _%_, _≤_, _<_}
 use mathlib.Core.List.{List, [], _∷_, _++_, append-assoc}
-use mathlib.Core.Bool.{Bool, not, _&&_}
+use mathlib.Core.Bool.{Bool, true, false, not, _&&_}
 use native.Mathlib.Numerals.{add-one}
 use native.Mathlib.Omega.{arith}
 use lib.Dec.{T, eqb, ltb}
-use lib.ListN.{length, getD, drop, replicate, drop-of-length-le, length-append, length-replicate}
+use lib.ListN.{length, getD, drop, replicate, drop-of-length-le, length-append, length-replicate, List·getD-eq-default}
 use lib.Seq.{drop-cons, drop-append-add}
 use borrow.Author.Tests.{eq-eqb, ne-eqb, ltb-true, not-true}
+use Rattle.semantics.specs.declared.Total.{Total}
 use Rattle.semantics.specs.Basics.{allOf}
 use Rattle.semantics.specs.Text.{text, decimal}
-use Rattle.semantics.specs.Listing.{kindWords, kindWord, codeWords, codeWord, totalText}
+use Rattle.semantics.specs.Listing.{kindWords, kindWord, codeWords, codeWord, narrowText, wideText}
+use Rattle.semantics.specs.Narrow.{narrow, totalBits}
+use Rattle.semantics.specs.Widths.{textOf}
 use Rattle.semantics.proofs.Booleans.{both, passed}
 use Rattle.text.specs.Writing.{Writing, written}
 use Rattle.terms.specs.Letters.{untilBlank}
@@ -87,11 +90,30 @@ pub code-letters : (n : ℕ) → untilBlank (drop (n * 11) (text "unfinished fou
 unfolding text codeWord row allOf
 code-letters n = word-at codeWords tt n
 
--- a total is pinned or true
-pub pinned-is : (n : ℕ) → n ≡ 65535 → text "pinned" ≡ totalText n
-unfolding totalText
-pinned-is n e = rw (eq-eqb n 65535 e)
+-- no word stands so far
+pub no-code : (n : ℕ) → 4294967296 ≤ n → [] ≡ codeWord n
+unfolding codeWord
+no-code n far = let past : length codeWords ≤ n = omega arith in sym (List·getD-eq-default codeWords [] past)
 
-pub true-is : (n : ℕ) → (n ≡ 65535 → ⊥) → decimal n ≡ totalText n
-unfolding totalText
-true-is n e = rw (ne-eqb n 65535 e)
+-- the total that a test for the highest narrow one makes
+pub narrow-is : (w : ℕ) {n : ℕ} → n ≡ w % 65536 → _≡_ {A = Total} (record { amount = n; saturated = eqb n 65535 }) (narrow (totalBits w))
+unfolding narrow
+narrow-is w e = λ i. record { amount = e i; saturated = eqb (e i) 65535 }
+
+-- a total is saturated, and then each width has a word for it, or true
+module _ (t : Total) (wide : Bool) where
+  pub at-least : t .saturated ≡ true → wide ≡ true → text "atleast " ++ decimal (t .amount) ≡ textOf wide t
+  unfolding wideText
+  at-least is w = rw (w, is)
+
+  pub pinned-is : t .saturated ≡ true → wide ≡ false → text "pinned" ≡ textOf wide t
+  unfolding narrowText
+  pinned-is is w = rw (w, is)
+
+  pub true-is : t .saturated ≡ false → decimal (t .amount) ≡ textOf wide t
+  unfolding narrowText wideText
+  true-is is = go wide
+    where
+      go : (b : Bool) → decimal (t .amount) ≡ textOf b t
+      go true = rw is
+      go false = rw is

@@ -4,12 +4,16 @@ ghost use mathlib.Core.Path.{_≡_};
 ghost use mathlib.Core.List.{_++_};
 ghost use lib.ListN.{drop};
 ghost use Rattle.semantics.specs.Text.{text};
-ghost use Rattle.semantics.specs.Listing.{kindWord, codeWord, totalText};
+ghost use Rattle.semantics.specs.Listing.{kindWord, codeWord};
+ghost use Rattle.semantics.specs.Widths.{widthOf, textOf};
 ghost use Rattle.text.specs.Writing.{written};
 ghost use Rattle.terms.specs.Letters.{untilBlank};
+use semantics::Total;
 use text::put;
 use text::put_bytes;
 use text::put_labelled;
+use wide::wide_total;
+use word::low_16;
 
 // A blank and the letters that stand from a place on, up to the next blank.
 fn put_word(out: &mut [u8], at: usize, words: &[u8], from: usize) -> usize
@@ -36,21 +40,43 @@ pub fn put_kind(out: &mut [u8], at: usize, kind: u8) -> usize
     put_word(out, at, words, kind as usize * 11)
 }
 
-// A blank and the word of an answer's code, in the same way.
-pub fn put_code(out: &mut [u8], at: usize, code: u16) -> usize
+// A blank and the word of an answer's code, in the same way. A number that no layout has for a code has
+// no place among the words, and no word.
+pub fn put_code(out: &mut [u8], at: usize, code: u64) -> usize
     ensures { λ r. ⌜ written (record { at = at; out = now (out .entry) }) (text " " ++ codeWord code) ≡ record { at = r; out = now (out .exit) } ⌝ }
 {
     let words =
         b"unfinished found      inserted   present    changed    removed    absent     full       ";
-    put_word(out, at, words, code as usize * 11)
+    if code < 4294967296 {
+        return put_word(out, at, words, code as usize * 11);
+    }
+    put(out, at, 32)
 }
 
-// A blank and a total or an amount.
-pub fn put_total(out: &mut [u8], at: usize, total: u16) -> usize
-    ensures { λ r. ⌜ written (record { at = at; out = now (out .entry) }) (text " " ++ totalText total) ≡ record { at = r; out = now (out .exit) } ⌝ }
+// The total of a cell or of an answer, or the amount of an operation, in a word of either width: all
+// three lie in the lowest bits.
+pub fn total_in(w: u64, wide: bool) -> Total
+    ensures { λ r. ⌜ r ≡ widthOf wide .totalIn w ⌝ }
 {
-    if total == 65535 {
+    if wide {
+        return wide_total(w);
+    }
+    let amount = low_16(w) as u32;
+    Total {
+        amount: amount,
+        saturated: amount == 65535,
+    }
+}
+
+// A blank and a total or an amount, as its width writes it.
+pub fn put_total(out: &mut [u8], at: usize, total: Total, wide: bool) -> usize
+    ensures { λ r. ⌜ written (record { at = at; out = now (out .entry) }) (text " " ++ textOf wide total) ≡ record { at = r; out = now (out .exit) } ⌝ }
+{
+    if total.saturated {
+        if wide {
+            return put_labelled(out, at, b" atleast ", total.amount as u64);
+        }
         return put_bytes(out, at, b" pinned");
     }
-    put_labelled(out, at, b" ", total as u64)
+    put_labelled(out, at, b" ", total.amount as u64)
 }

@@ -1,13 +1,29 @@
 -- `cell_lines::put_cell` meets its contract: an empty cell has no line.
 -- Assumes nothing.
 use Rattle.semantics.specs.Text.{text}
+use Rattle.semantics.specs.Widths.{widthOf, textOf}
 use Rattle.cell_lines.proofs.Cells.{empty-cell, cell-line}
 use borrow.Author.Needs.{needs}
 use Rattle.cell_lines.proofs.put_cell.Statement.{statement}
 use Rattle.cell_lines.proofs.put_cell.Tie as tie
 
+-- the contents and the number that were written before the end of the line, and where the number was
+abbrev contents-of : tie.After-put → tie.After-put-contents
+contents-of c = c .before .before .before .before
+
+abbrev number-of : tie.After-put-contents → tie.After-put-labelled
+number-of c = c .before .before .before .before
+
+abbrev test-of : tie.After-put-labelled → tie.Else1
+test-of c = c .before .before .before
+
+abbrev start : tie.Else1 → tie.Start
+start c = c .before .before
+
 returns : tie.Need-returns
-returns c = empty-cell _ _ _ (c .if1 .taken)
+returns c =
+    let a = c .before .before .args in
+    empty-cell (widthOf (a .wide)) (textOf (a .wide)) _ (a .i) (a .w) (c .if1 .taken)
 
 slice-aggregate-put-labelled : tie.Need-slice-aggregate-put-labelled
 slice-aggregate-put-labelled c = search needs
@@ -28,9 +44,11 @@ returns-2 : tie.Need-returns-2
 unfolding text
 returns-2 c =
     let end = c .before .before in
-    let contents = end .before .before .before .before in
-    let number = contents .before .before .before .before in
-    cell-line _ _ _ (number .before .before .before .if1 .left) (number .put-labelled .ensures) (contents .put-contents .ensures) (end .put .ensures)
+    let contents = contents-of end in
+    let number = number-of contents in
+    let test = test-of number in
+    let a = start test .args in
+    cell-line (widthOf (a .wide)) (textOf (a .wide)) _ (a .i) (a .w) (test .if1 .left) (number .put-labelled .ensures) (contents .put-contents .ensures) (end .put .ensures)
 
 pub put-cell-spec : {M : Type 1} → statement M
 put-cell-spec =

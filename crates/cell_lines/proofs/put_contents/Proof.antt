@@ -1,11 +1,30 @@
 -- `cell_lines::put_contents` meets its contract: a tombstone has a word, another cell its key and total.
 -- Assumes nothing.
+use mathlib.Core.Path.{_≡_, sym, _∙_}
+use Rattle.semantics.specs.Cells.{tombstone}
+use Rattle.semantics.specs.Words.{encode}
 use Rattle.semantics.specs.Text.{text}
-use Rattle.semantics.specs.Words.{tombstoneWord}
+use Rattle.semantics.specs.Widths.{widthOf, textOf}
 use Rattle.cell_lines.proofs.Cells.{gone-part, live-part}
 use borrow.Author.Needs.{needs}
 use Rattle.cell_lines.proofs.put_contents.Statement.{statement}
 use Rattle.cell_lines.proofs.put_contents.Tie as tie
+
+-- the start of the function, as the test for a tombstone sees it, and the test that led to each of the two texts
+abbrev start : tie.After-tombstone → tie.Start
+start c = c .before .before
+
+abbrev gone : tie.After-put-bytes → tie.Then1
+gone c = c .before .before .before
+
+abbrev key-of : tie.After-total-in → tie.After-put-labelled
+key-of c = c .before .before .before .before
+
+abbrev live : tie.After-key-in → tie.Else1
+live c = c .before .before .before
+
+tombstone-requires : tie.Need-tombstone-requires
+tombstone-requires c κs = search needs
 
 slice-aggregate-put-bytes : tie.Need-slice-aggregate-put-bytes
 slice-aggregate-put-bytes c = search needs
@@ -17,23 +36,24 @@ same-length : tie.Need-same-length
 same-length c = search needs
 
 returns : tie.Need-returns
-unfolding text tombstoneWord
-returns c = gone-part _ _ (c .before .before .before .before .before .if1 .taken) (c .before .before .put-bytes .ensures)
+unfolding text
+returns c =
+    let put = c .before .before in
+    let test = gone put in
+    let a = start (test .before) .args in
+    gone-part (widthOf (a .wide)) (textOf (a .wide)) _ (a .w) (test .if1 .taken ∙ test .before .tombstone .ensures) (put .put-bytes .ensures)
 
 slice-aggregate-put-labelled : tie.Need-slice-aggregate-put-labelled
 slice-aggregate-put-labelled c = search needs
 
-cell-key-requires : tie.Need-cell-key-requires
-cell-key-requires c κs = search needs
-
-cast-put-labelled : tie.Need-cast-put-labelled
-cast-put-labelled c = search needs
+key-in-requires : tie.Need-key-in-requires
+key-in-requires c κs = search needs
 
 put-labelled-requires : tie.Need-put-labelled-requires
 put-labelled-requires c κs = search needs
 
-cell-total-requires : tie.Need-cell-total-requires
-cell-total-requires c κs = search needs
+total-in-requires : tie.Need-total-in-requires
+total-in-requires c κs = search needs
 
 put-total-requires : tie.Need-put-total-requires
 put-total-requires c κs = search needs
@@ -42,28 +62,30 @@ same-length-2 : tie.Need-same-length-2
 same-length-2 c = search needs
 
 returns-2 : tie.Need-returns-2
-unfolding text tombstoneWord
+unfolding text
 returns-2 c =
     let put = c .before .before in
     let total = put .before in
-    let labelled = total .before .before .before .before in
-    let key = labelled .before in
-    live-part _ _ (key .before .before .before .if1 .left) (key .cell-key .ensures) (total .cell-total .ensures) (labelled .put-labelled .ensures)
+    let key = key-of total in
+    let test = live (key .before) in
+    let a = start (test .before) .args in
+    let other : a .w ≡ encode (widthOf (a .wide)) tombstone → ⊥ = λ is. test .if1 .left (is ∙ sym (test .before .tombstone .ensures)) in
+    live-part (widthOf (a .wide)) (textOf (a .wide)) _ (a .w) other (key .before .key-in .ensures) (total .total-in .ensures) (key .put-labelled .ensures)
     (put .put-total .ensures)
 
 pub put-contents-spec : {M : Type 1} → statement M
 put-contents-spec =
     tie.close
     (tie.spec
+    tombstone-requires
     slice-aggregate-put-bytes
     put-bytes-requires
     same-length
     returns
     slice-aggregate-put-labelled
-    cell-key-requires
-    cast-put-labelled
+    key-in-requires
     put-labelled-requires
-    cell-total-requires
+    total-in-requires
     put-total-requires
     same-length-2
     returns-2)

@@ -1,13 +1,25 @@
 -- `listing::has_room` meets its contract: no text is longer than what is always enough, and any other is measured.
 -- Assumes nothing.
 use Prim.Native.Nat.{ℕ, _^_, _<_}
+use mathlib.Core.List.{List, _++_}
 use native.Mathlib.Omega.{arith}
-use lib.ListN.{getD}
+use lib.ListN.{getD, length-append}
+use Rattle.semantics.specs.Listing.{listing}
+use Rattle.semantics.specs.Widths.{widthOf, textOf}
 use Rattle.semantics.proofs.Lengths.{fits, listing-within}
+use Rattle.semantics.proofs.Widths.{short, most-text, keys-small}
 use Rattle.text.proofs.Writing.{measured}
 use borrow.Author.Needs.{needs}
 use Rattle.listing.proofs.has_room.Statement.{statement}
 use Rattle.listing.proofs.has_room.Tie as tie
+
+abbrev start : tie.After-shared-slice-known6 → tie.Start
+start c = c .before .before .before .before .before .before
+
+abbrev bytes : tie.Start → List ℕ
+bytes c =
+    let a = c .args in
+    listing (widthOf (a .wide)) (textOf (a .wide)) (a .outcome) (a .operations .now) (a .answers32 .now ++ a .answers64 .now) (a .log .now) (a .cells32 .now ++ a .cells64 .now)
 
 most-bytes-requires : tie.Need-most-bytes-requires
 most-bytes-requires c κs = search needs
@@ -15,10 +27,20 @@ most-bytes-requires c κs = search needs
 returns : tie.Need-returns
 returns c =
     let call = c .before in
-    let a = call .before .before .before .before .before .args in
-    let (most, rows, entries, size) = call .most-bytes .ensures (omega arith) in
-    let words : (i : ℕ) → getD (a .cells .now) i 0 < 2 ^ 32 = λ i. omega (arith, call .before .shared-slice-known4 .given i) in
-    fits (listing-within (a .outcome) _ _ _ _ (λ e. record { rows = rows; entries = omega arith; size = size; words = words })) (omega (arith, c .if1 .taken))
+    let a = start (call .before) .args in
+    let (most, rows, entries, size, alone) = call .most-bytes .ensures (omega arith) in
+    let narrow : (i : ℕ) → getD (a .cells32 .now) i 0 < 2 ^ 32 = λ i. omega (arith, call .before .before .shared-slice-known5 .given i) in
+    let wide : (i : ℕ) → getD (a .cells64 .now) i 0 < 2 ^ 64 = λ i. omega (arith, call .before .shared-slice-known6 .given i) in
+    fits
+    (listing-within (short (a .wide)) (a .outcome) (a .operations .now) (a .answers32 .now ++ a .answers64 .now) (a .log .now) (a .cells32 .now ++ a .cells64 .now)
+    (λ e.
+    record {
+      rows = rows;
+      entries = omega arith;
+      size = omega (arith, length-append (a .cells32 .now) (a .cells64 .now));
+      keys = keys-small (a .cells32 .now) (a .cells64 .now) (a .wide) narrow wide alone;
+    }))
+    (omega (arith, most-text (a .wide), c .if1 .taken))
 
 slice-aggregate-put-listing : tie.Need-slice-aggregate-put-listing
 slice-aggregate-put-listing c = search needs
@@ -29,10 +51,16 @@ put-listing-requires c κs = search needs
 returns-2 : tie.Need-returns-2
 returns-2 c =
     let tried = c .before in
-    let start = tried .before .before .before .before .before .before .before .before in
-    measured _ _ _ (start .pre) (tried .put-listing .ensures)
+    let call = tried .before .before .before in
+    let s = start (call .before) in
+    measured (bytes s) _ (s .args .room) (s .pre) (tried .put-listing .ensures)
 
 pub has-room-spec : {M : Type 1} → statement M
 has-room-spec =
     tie.close
-    (tie.spec most-bytes-requires returns slice-aggregate-put-listing put-listing-requires returns-2)
+    (tie.spec
+    most-bytes-requires
+    returns
+    slice-aggregate-put-listing
+    put-listing-requires
+    returns-2)

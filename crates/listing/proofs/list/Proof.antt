@@ -1,30 +1,37 @@
--- `listing::list` meets its contract: the text is written if it fits.
+-- `listing::list` meets its contract: beside the narrow slices it lends empty ones.
 -- Assumes nothing.
-use native.Mathlib.Omega.{arith}
-use Rattle.text.proofs.Writing.{handed-whole, handed-not}
+use Rattle.listing.proofs.Listed.{narrow-alone}
 use borrow.Author.Needs.{needs}
 use Rattle.listing.proofs.list.Statement.{statement}
 use Rattle.listing.proofs.list.Tie as tie
 
-has-room-requires : tie.Need-has-room-requires
-has-room-requires c κs = search needs
+abbrev start : tie.After-list-lent → tie.Start
+start c = c .before .before .before .before .before .before .before .before .before
 
-put-listing-requires : tie.Need-put-listing-requires
-put-listing-requires c κs = search needs
+slice-aggregate-list-lent : tie.Need-slice-aggregate-list-lent
+slice-aggregate-list-lent c = search needs
+
+slice-aggregate-list-lent-2 : tie.Need-slice-aggregate-list-lent-2
+slice-aggregate-list-lent-2 c = search needs
+
+list-lent-requires : tie.Need-list-lent-requires
+list-lent-requires c κs = search needs
 
 same-length : tie.Need-same-length
 same-length c = search needs
 
 returns : tie.Need-returns
 returns c =
-    let put = c .before .before in
-    let test = put .before .before in
-    -- what owning the slice tells: it is shorter than the largest usize
-    let short = test .before .before .before .before .before .before .before .good .1 .1 .1 .1 .1 .0 in
-    handed-whole _ _ (test .before .has-room .ensures) (test .if1 .taken) (omega (arith, short)) (put .put-listing .ensures)
-
-returns-2 : tie.Need-returns-2
-returns-2 c = handed-not _ _ (c .before .has-room .ensures) (c .if1 .left)
+    let call = c .before .before in
+    let a = start call .args in
+    narrow-alone (a .outcome) (a .operations .now) (a .answers .now) (a .log .now) (a .cells .now) (a .out .now) (call .list-lent .ensures)
 
 pub list-spec : {M : Type 1} → statement M
-list-spec = tie.close (tie.spec has-room-requires put-listing-requires same-length returns returns-2)
+list-spec =
+    tie.close
+    (tie.spec
+    slice-aggregate-list-lent
+    slice-aggregate-list-lent-2
+    list-lent-requires
+    same-length
+    returns)

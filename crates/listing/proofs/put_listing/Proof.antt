@@ -1,9 +1,24 @@
 -- `listing::put_listing` meets its contract.
 -- Assumes nothing.
+use mathlib.Core.List.{_++_}
+use Rattle.semantics.specs.Widths.{widthOf, textOf}
 use Rattle.listing.proofs.Listed.{run-lines, one-line}
 use borrow.Author.Needs.{needs}
 use Rattle.listing.proofs.put_listing.Statement.{statement}
 use Rattle.listing.proofs.put_listing.Tie as tie
+
+-- the lines that were written one after another, and the test before them
+abbrev log-of : tie.After-put-cells → tie.After-put-log
+log-of c = c .before .before .before .before
+
+abbrev rows-of : tie.After-put-log → tie.After-put-rows
+rows-of c = c .before .before .before .before
+
+abbrev counts-of : tie.After-put-rows → tie.After-put-counts
+counts-of c = c .before .before .before .before
+
+abbrev start : tie.After-struct-known → tie.Start
+start c = c .before .before .before .before .before .before .before .before
 
 put-counts-requires : tie.Need-put-counts-requires
 put-counts-requires c κs = search needs
@@ -23,10 +38,13 @@ same-length c = search needs
 returns : tie.Need-returns
 returns c =
     let cells = c .before .before in
-    let log = cells .before .before .before .before in
-    let rows = log .before .before .before .before in
-    let counts = rows .before .before .before .before in
-    run-lines _ _ _ _ _ _ (counts .before .before .if1 .taken) (counts .put-counts .ensures) (rows .put-rows .ensures) (log .put-log .ensures)
+    let log = log-of cells in
+    let rows = rows-of log in
+    let counts = counts-of rows in
+    let test = counts .before .before in
+    let a = start (test .before) .args in
+    run-lines _ (widthOf (a .wide)) (textOf (a .wide)) (a .outcome) (a .operations .now) (a .answers32 .now ++ a .answers64 .now) (a .log .now)
+    (a .cells32 .now ++ a .cells64 .now) (test .if1 .taken) (counts .put-counts .ensures) (rows .put-rows .ensures) (log .put-log .ensures)
     (cells .put-cells .ensures)
 
 put-refusal-requires : tie.Need-put-refusal-requires
@@ -36,7 +54,12 @@ same-length-2 : tie.Need-same-length-2
 same-length-2 c = search needs
 
 returns-2 : tie.Need-returns-2
-returns-2 c = one-line _ _ _ _ _ _ (c .before .before .before .before .if1 .left) (c .before .before .put-refusal .ensures)
+returns-2 c =
+    let put = c .before .before in
+    let test = put .before .before in
+    let a = start (test .before) .args in
+    one-line _ (widthOf (a .wide)) (textOf (a .wide)) (a .outcome) (a .operations .now) (a .answers32 .now ++ a .answers64 .now) (a .log .now)
+    (a .cells32 .now ++ a .cells64 .now) (test .if1 .left) (put .put-refusal .ensures)
 
 pub put-listing-spec : {M : Type 1} → statement M
 put-listing-spec =

@@ -5,6 +5,8 @@ use Prim.Native.Nat.{ℕ}
 use lib.ListN.{replicate, length-replicate}
 use borrow.Author.Needs.{needs}
 use Rattle.semantics.specs.Response.{runOf}
+use Rattle.semantics.specs.Narrow.{narrowWidth}
+use Rattle.semantics.specs.Listing.{narrowText}
 use Rattle.report.proofs.Responded.{Answers, answers, refusal-listed, kept}
 use Rattle.report.proofs.report.Statement.{statement}
 use Rattle.report.proofs.report.Tie as tie
@@ -90,7 +92,7 @@ unfolding Answers
 returns-2 c =
     let made = c .before .before .before .before .before .before .before .before in
     let wrong = made .before .if1 .left in
-    kept _ _ _ _ (answered (made .before .before .before .before .before .before) .1 wrong ∙ refusal-listed _ _ _ _ _ _ wrong (made .refused .ensures))
+    kept _ _ _ _ (answered (made .before .before .before .before .before .before) .1 wrong ∙ refusal-listed narrowWidth narrowText _ _ _ _ _ _ wrong (made .refused .ensures))
     (c .before .before .list .ensures)
 
 pub report-spec : {M : Type 1} → statement M

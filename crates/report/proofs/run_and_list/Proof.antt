@@ -1,6 +1,8 @@
 -- `report::run_and_list` meets its contract.
 -- Assumes nothing.
 use borrow.Author.Needs.{needs}
+use Rattle.semantics.specs.Narrow.{narrowWidth}
+use Rattle.semantics.specs.Listing.{narrowText}
 use Rattle.report.proofs.Responded.{run-listed}
 use Rattle.report.proofs.run_and_list.Statement.{statement}
 use Rattle.report.proofs.run_and_list.Tie as tie
@@ -24,7 +26,9 @@ same-length-4 : tie.Need-same-length-4
 same-length-4 c = search needs
 
 returns : tie.Need-returns
-returns c = run-listed _ _ (c .before .before .before .before .before .before .before .before .before .before .before .before .before .run .ensures .result) (c .before .before .list .ensures)
+returns c =
+    let ran = c .before .before .before .before .before .before .before .before .before .before .before .before .before in
+    run-listed narrowWidth narrowText _ _ (ran .run .ensures .result) (c .before .before .list .ensures)
 
 pub run-and-list-spec : {M : Type 1} → statement M
 run-and-list-spec =

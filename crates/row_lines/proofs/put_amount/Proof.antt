@@ -1,16 +1,26 @@
 -- `row_lines::put_amount` meets its contract.
 -- Assumes nothing.
+use mathlib.Core.Path.{_∙_}
 use Rattle.semantics.specs.Text.{text}
+use Rattle.semantics.specs.Widths.{widthOf, textOf}
+use Rattle.semantics.proofs.Widths.{amount-there}
 use Rattle.row_lines.proofs.Rows.{amount-part}
 use borrow.Author.Needs.{needs}
 use Rattle.row_lines.proofs.put_amount.Statement.{statement}
 use Rattle.row_lines.proofs.put_amount.Tie as tie
 
+-- the total that was written, the key before it, and where both were read
+abbrev key-of : tie.After-total-in → tie.After-put-labelled
+key-of c = c .before .before .before .before
+
+abbrev start : tie.After-key-in → tie.Start
+start c = c .before .before .before .before
+
 slice-aggregate-put-labelled : tie.Need-slice-aggregate-put-labelled
 slice-aggregate-put-labelled c = search needs
 
-operation-key-requires : tie.Need-operation-key-requires
-operation-key-requires c κs = search needs
+key-in-requires : tie.Need-key-in-requires
+key-in-requires c κs = search needs
 
 cast-put-labelled : tie.Need-cast-put-labelled
 cast-put-labelled c = search needs
@@ -18,8 +28,8 @@ cast-put-labelled c = search needs
 put-labelled-requires : tie.Need-put-labelled-requires
 put-labelled-requires c κs = search needs
 
-operation-amount-requires : tie.Need-operation-amount-requires
-operation-amount-requires c κs = search needs
+total-in-requires : tie.Need-total-in-requires
+total-in-requires c κs = search needs
 
 put-total-requires : tie.Need-put-total-requires
 put-total-requires c κs = search needs
@@ -32,19 +42,20 @@ unfolding text
 returns c =
     let total = c .before .before in
     let amount = total .before in
-    let labelled = amount .before .before .before .before in
-    let key = labelled .before in
-    amount-part _ _ (key .operation-key .ensures) (amount .operation-amount .ensures) (labelled .put-labelled .ensures) (total .put-total .ensures)
+    let key = key-of amount in
+    let a = start (key .before) .args in
+    amount-part (widthOf (a .wide)) (textOf (a .wide)) _ (a .operation) (key .before .key-in .ensures)
+    (amount .total-in .ensures ∙ amount-there (a .wide) (a .operation)) (key .put-labelled .ensures) (total .put-total .ensures)
 
 pub put-amount-spec : {M : Type 1} → statement M
 put-amount-spec =
     tie.close
     (tie.spec
     slice-aggregate-put-labelled
-    operation-key-requires
+    key-in-requires
     cast-put-labelled
     put-labelled-requires
-    operation-amount-requires
+    total-in-requires
     put-total-requires
     same-length
     returns)

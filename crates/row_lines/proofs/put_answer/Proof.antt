@@ -1,18 +1,28 @@
 -- `row_lines::put_answer` meets its contract.
 -- Assumes nothing.
+use mathlib.Core.Path.{_∙_}
+use Rattle.semantics.specs.Widths.{widthOf, textOf}
+use Rattle.semantics.proofs.Widths.{answer-there}
 use Rattle.row_lines.proofs.Rows.{answer-part}
 use borrow.Author.Needs.{needs}
 use Rattle.row_lines.proofs.put_answer.Statement.{statement}
 use Rattle.row_lines.proofs.put_answer.Tie as tie
 
-answer-code-requires : tie.Need-answer-code-requires
-answer-code-requires c κs = search needs
+-- the total that was written, the code before it, and where both were read
+abbrev word-of : tie.After-total-in → tie.After-put-code
+word-of c = c .before .before .before .before
+
+abbrev start : tie.After-code-in → tie.Start
+start c = c .before .before .before
+
+code-in-requires : tie.Need-code-in-requires
+code-in-requires c κs = search needs
 
 put-code-requires : tie.Need-put-code-requires
 put-code-requires c κs = search needs
 
-answer-total-requires : tie.Need-answer-total-requires
-answer-total-requires c κs = search needs
+total-in-requires : tie.Need-total-in-requires
+total-in-requires c κs = search needs
 
 put-total-requires : tie.Need-put-total-requires
 put-total-requires c κs = search needs
@@ -24,16 +34,18 @@ returns : tie.Need-returns
 returns c =
     let put = c .before .before in
     let total = put .before in
-    let word = total .before .before .before .before in
-    answer-part _ _ (word .before .answer-code .ensures) (total .answer-total .ensures) (word .put-code .ensures) (put .put-total .ensures)
+    let word = word-of total in
+    let a = start (word .before) .args in
+    answer-part (widthOf (a .wide)) (textOf (a .wide)) _ (a .answer) (word .before .code-in .ensures)
+    (total .total-in .ensures ∙ answer-there (a .wide) (a .answer)) (word .put-code .ensures) (put .put-total .ensures)
 
 pub put-answer-spec : {M : Type 1} → statement M
 put-answer-spec =
     tie.close
     (tie.spec
-    answer-code-requires
+    code-in-requires
     put-code-requires
-    answer-total-requires
+    total-in-requires
     put-total-requires
     same-length
     returns)

@@ -1,10 +1,18 @@
 -- `row_lines::put_operation` meets its contract.
 -- Assumes nothing.
 use Rattle.semantics.specs.Text.{text}
+use Rattle.semantics.specs.Widths.{widthOf, textOf}
 use Rattle.row_lines.proofs.Rows.{operation-part}
 use borrow.Author.Needs.{needs}
 use Rattle.row_lines.proofs.put_operation.Statement.{statement}
 use Rattle.row_lines.proofs.put_operation.Tie as tie
+
+-- the kind that was written after the number, and where both were read
+abbrev number-of : tie.After-kind-in → tie.After-put-labelled
+number-of c = c .before .before .before .before
+
+abbrev start : tie.After-put-labelled → tie.Start
+start c = c .before .before .before .before
 
 slice-aggregate-put-labelled : tie.Need-slice-aggregate-put-labelled
 slice-aggregate-put-labelled c = search needs
@@ -12,8 +20,8 @@ slice-aggregate-put-labelled c = search needs
 put-labelled-requires : tie.Need-put-labelled-requires
 put-labelled-requires c κs = search needs
 
-operation-kind-requires : tie.Need-operation-kind-requires
-operation-kind-requires c κs = search needs
+kind-in-requires : tie.Need-kind-in-requires
+kind-in-requires c κs = search needs
 
 put-kind-requires : tie.Need-put-kind-requires
 put-kind-requires c κs = search needs
@@ -29,9 +37,10 @@ unfolding text
 returns c =
     let amount = c .before .before in
     let word = amount .before .before .before .before in
-    let kind = word .before in
-    let number = kind .before .before .before .before in
-    operation-part _ _ _ (kind .operation-kind .ensures) (number .put-labelled .ensures) (word .put-kind .ensures) (amount .put-amount .ensures)
+    let number = number-of (word .before) in
+    let a = start number .args in
+    operation-part (widthOf (a .wide)) (textOf (a .wide)) _ (a .i) (a .operation) (word .before .kind-in .ensures) (number .put-labelled .ensures) (word .put-kind .ensures)
+    (amount .put-amount .ensures)
 
 pub put-operation-spec : {M : Type 1} → statement M
 put-operation-spec =
@@ -39,7 +48,7 @@ put-operation-spec =
     (tie.spec
     slice-aggregate-put-labelled
     put-labelled-requires
-    operation-kind-requires
+    kind-in-requires
     put-kind-requires
     put-amount-requires
     same-length

@@ -1,10 +1,21 @@
 -- `row_lines::put_row` meets its contract.
 -- Assumes nothing.
 use Rattle.semantics.specs.Text.{text}
+use Rattle.semantics.specs.Widths.{widthOf, textOf}
 use Rattle.row_lines.proofs.Rows.{row-line}
 use borrow.Author.Needs.{needs}
 use Rattle.row_lines.proofs.put_row.Statement.{statement}
 use Rattle.row_lines.proofs.put_row.Tie as tie
+
+-- the answer and the operation that were written before the end of the line
+abbrev answer-of : tie.After-put → tie.After-put-answer
+answer-of c = c .before .before .before .before
+
+abbrev operation-of : tie.After-put-answer → tie.After-put-operation
+operation-of c = c .before .before .before .before
+
+abbrev start : tie.After-put-operation → tie.Start
+start c = c .before .before .before
 
 put-operation-requires : tie.Need-put-operation-requires
 put-operation-requires c κs = search needs
@@ -22,9 +33,10 @@ returns : tie.Need-returns
 unfolding text
 returns c =
     let end = c .before .before in
-    let answer = end .before .before .before .before in
-    let operation = answer .before .before .before .before in
-    row-line _ _ _ _ (operation .put-operation .ensures) (answer .put-answer .ensures) (end .put .ensures)
+    let answer = answer-of end in
+    let operation = operation-of answer in
+    let a = start operation .args in
+    row-line (widthOf (a .wide)) (textOf (a .wide)) _ (a .i) (a .operation) (a .answer) (operation .put-operation .ensures) (answer .put-answer .ensures) (end .put .ensures)
 
 pub put-row-spec : {M : Type 1} → statement M
 put-row-spec =

@@ -4,10 +4,17 @@ use mathlib.Core.Path.{ap}
 use mathlib.Core.List.{_++_}
 use Rattle.semantics.specs.Text.{text}
 use Rattle.text.proofs.Writing.{same-text}
-use Rattle.terms.proofs.Words.{code-letters}
+use Rattle.terms.proofs.Words.{code-letters, no-code}
 use borrow.Author.Needs.{needs}
 use Rattle.terms.proofs.put_code.Statement.{statement}
 use Rattle.terms.proofs.put_code.Tie as tie
+
+-- the start of the function, as the word and the lone blank see it
+abbrev word-start : tie.After-put-word → tie.Start
+word-start c = c .before .before .before .before .before .before
+
+abbrev blank-start : tie.Else1 → tie.Start
+blank-start c = c .before .before .before
 
 mul-put-word : tie.Need-mul-put-word
 mul-put-word c = search needs
@@ -20,7 +27,31 @@ same-length c = search needs
 
 returns : tie.Need-returns
 unfolding text
-returns c = same-text _ (ap (_++_ (text " ")) (code-letters (c .before .before .before .before .before .before .before .args .code))) (c .before .before .put-word .ensures)
+returns c =
+    let put = c .before .before in
+    same-text _ (ap (_++_ (text " ")) (code-letters (word-start put .args .code))) (put .put-word .ensures)
+
+put-requires : tie.Need-put-requires
+put-requires c κs = search needs
+
+same-length-2 : tie.Need-same-length-2
+same-length-2 c = search needs
+
+returns-2 : tie.Need-returns-2
+unfolding text
+returns-2 c =
+    let put = c .before .before in
+    let else = put .before .before in
+    same-text _ (ap (_++_ (text " ")) (no-code (blank-start else .args .code) (else .if1 .left))) (put .put .ensures)
 
 pub put-code-spec : {M : Type 1} → statement M
-put-code-spec = tie.close (tie.spec mul-put-word put-word-requires same-length returns)
+put-code-spec =
+    tie.close
+    (tie.spec
+    mul-put-word
+    put-word-requires
+    same-length
+    returns
+    put-requires
+    same-length-2
+    returns-2)
