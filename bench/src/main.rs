@@ -17,11 +17,12 @@ use std::process::exit;
 use cases::Case;
 use counts::Counts;
 use growth::Series;
-use measure::{call_once, figures, Figures};
+use measure::{call_once, figures, instructions, Figures, Pair};
 
-const USAGE: &str = "usage: bench calls|tables all|files|growth [COUNTS]
-calls    makes every call once, for callgrind to count
-tables   times every call and prints the tables, with the counts in the file COUNTS of callgrind";
+const USAGE: &str = "usage: bench calls|tables|instructions all|files|growth [COUNTS]
+calls          makes every call once, for callgrind to count
+tables         times every call and prints the tables, with the counts in the file COUNTS of callgrind
+instructions   prints the counts alone, a line for each figure, as bench/instructions.txt has them";
 
 fn main() {
     let words: Vec<String> = std::env::args().skip(1).collect();
@@ -48,6 +49,10 @@ fn main() {
     match task {
         "calls" => all.into_iter().for_each(call_once),
         "tables" => print(&cases, &series, &figures(&all, counts.map(read))),
+        "instructions" => {
+            let counts = read(counts.unwrap_or_else(|| fail(USAGE)));
+            lines(&cases, &series, &instructions(&all, counts));
+        }
         _ => fail(USAGE),
     }
 }
@@ -75,5 +80,19 @@ fn print(cases: &[Case], series: &[Series], figures: &[[Figures; 2]]) {
         let (of_series, after) = rest.split_at(series.points.len());
         print::series(series, of_series);
         rest = after;
+    }
+}
+
+/// The same order as in `print`. A line is the figure, the series or "files",
+/// the file or its size, and the instructions of both sides.
+fn lines(cases: &[Case], series: &[Series], instructions: &[[Pair; 2]]) {
+    let mut rest = instructions.iter();
+    for case in cases {
+        print::lines("files", case, rest.next());
+    }
+    for series in series {
+        for point in &series.points {
+            print::lines(series.name, &point.case, rest.next());
+        }
     }
 }

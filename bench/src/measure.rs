@@ -55,21 +55,29 @@ pub fn call_once(case: &Case) {
 
 /// The figures of the stages of each case. The counts are those of `call_once`
 /// on the same cases.
-pub fn figures(cases: &[&Case], mut counts: Option<Counts>) -> Vec<[Figures; 2]> {
+pub fn figures(cases: &[&Case], counts: Option<Counts>) -> Vec<[Figures; 2]> {
     let times = nanoseconds(cases);
-    let with_counts = |times: [Pair; 2]| {
-        [0, 1].map(|number| Figures {
-            nanoseconds: times[number],
-            instructions: counts.as_mut().map(|counts| Pair {
-                proved: counts.following(STAGES[number].proved_name) as f64,
-                rust: counts.following(STAGES[number].rust_name) as f64,
-            }),
+    let counted = counts.map(|counts| instructions(cases, counts));
+    let of_case = |number: usize| {
+        [0, 1].map(|stage| Figures {
+            nanoseconds: times[number][stage],
+            instructions: counted.as_ref().map(|counted| counted[number][stage]),
         })
     };
-    let figures = times.into_iter().map(with_counts).collect();
-    let all_taken = counts.is_none_or(|counts| counts.is_empty());
-    assert!(all_taken, "more calls were counted than made here");
-    figures
+    (0..cases.len()).map(of_case).collect()
+}
+
+/// The instructions of the stages of each case, from the counts of `call_once`
+/// on the same cases.
+pub fn instructions(cases: &[&Case], mut counts: Counts) -> Vec<[Pair; 2]> {
+    let mut of_stage = |stage: Stage| Pair {
+        proved: counts.following(stage.proved_name) as f64,
+        rust: counts.following(stage.rust_name) as f64,
+    };
+    let of_case = |_| STAGES.map(&mut of_stage);
+    let counted = cases.iter().map(of_case).collect();
+    assert!(counts.is_empty(), "more calls were counted than made here");
+    counted
 }
 
 fn nanoseconds(cases: &[&Case]) -> Vec<[Pair; 2]> {

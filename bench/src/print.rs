@@ -49,6 +49,16 @@ pub fn series(series: &Series, figures: &[[Figures; 2]]) {
     }
 }
 
+/// A line for each stage of a case: the stage, what the case belongs to, its
+/// name, and the instructions of both sides.
+pub fn lines(group: &str, case: &Case, instructions: Option<&[Pair; 2]>) {
+    let instructions = instructions.expect("every case has its counts");
+    for (stage, pair) in STAGES.iter().zip(instructions) {
+        let (name, proved, rust) = (&case.name, pair.proved, pair.rust);
+        println!("{}\t{group}\t{name}\t{proved}\t{rust}", stage.name);
+    }
+}
+
 /// The instructions for each of what came to a size and its counts.
 fn slope(before: Option<(usize, Pair)>, now: Option<(usize, Pair)>) -> String {
     let (Some((less, from)), Some((more, to))) = (before, now) else {

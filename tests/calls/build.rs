@@ -1,14 +1,14 @@
-//! Links the static library of the crate boundary, which `rt staticlib boundary` writes.
+//! Links the static library of the proved functions, which tests/calls/library builds.
 
 use std::path::Path;
 
 fn main() {
     let root = Path::new(env!("CARGO_MANIFEST_DIR")).join("../..");
-    let library = root.join("target/staticlib");
-    println!("cargo:rustc-link-search=native={}", library.display());
-    println!("cargo:rustc-link-lib=static=boundary");
+    let folder = root.join("target/calls");
+    println!("cargo:rustc-link-search=native={}", folder.display());
+    println!("cargo:rustc-link-lib=static=proved");
     println!(
         "cargo:rerun-if-changed={}",
-        library.join("libboundary.a").display()
+        folder.join("libproved.a").display()
     );
 }
