@@ -45,10 +45,6 @@ pub neither : (p q : Bool) → (p || q) ≡ false → (p ≡ false) × (q ≡ fa
 neither true q e = absurd (true≢false e)
 neither false q e = (refl, e)
 
-pub other-fails : (p q : Bool) → T p → (p && q) ≡ false → q ≡ false
-other-fails true q t e = e
-other-fails false q t e = absurd t
-
 pub join : (p q : Bool) → T p → T q → T (p && q)
 join true q t u = u
 join false q t u = t

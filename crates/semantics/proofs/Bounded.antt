@@ -72,6 +72,7 @@ bounded file = go (eqb (number-of .number) 0) .most
     number-of = readerRefusal narrowFile file mostCells mostOperations mostEntries
 
     go : (z : Bool)
-        → Within mostText (cond z (listed narrowWidth narrowText (contents narrowFile file .operations) (runOf narrowWidth (contents narrowFile file))) (refusalText (number-of .number) (number-of .place)))
+        → Within mostText
+        (cond z (listed narrowWidth narrowText (contents narrowFile file .operations) (runOf narrowWidth (contents narrowFile file))) (refusalText (number-of .number) (number-of .place)))
     go true = looser mostText (omega arith) (run-listed narrow-packing narrow-short (contents narrowFile file))
     go false = looser mostText (omega arith) (refusal (number-of .number) (number-of .place))

@@ -6,12 +6,12 @@ use Prim.Native.Nat.{ℕ, suc, _≤_}
 use native.Mathlib.Nat.{le-trans}
 use native.Mathlib.Omega.{arith}
 use lib.Dec.{eqb}
-use mathlib.Core.List.{List, [], _∷_, foldl}
+use mathlib.Core.List.{List, [], _∷_, _++_, foldl}
 use mathlib.Core.Option.{Option, none, some}
 use lib.ListN.{set, getElem?}
 use Rattle.semantics.specs.Basics.{isSome, occurs, countOf}
 use Rattle.semantics.specs.Cells.{Setting, Operation}
-use Rattle.semantics.specs.Step.{Turn, passes, holds, loses, finishes, logged, Pending, State, pending, finished, Row, Machine, idled, taken, Act, idles, steps, actIn, actOf, applied, entry}
+use Rattle.semantics.specs.Step.{Turn, passes, holds, loses, finishes, logged, Pending, State, pending, finished, Row, Machine, idled, taken, actIn, actOf, applied, entry}
 use Rattle.semantics.specs.Step.{answered, answerIn, finishedIn}
 use Rattle.semantics.proofs.Lists.{elem-set-same, elem-set-other}
 use Rattle.semantics.proofs.Counts.{count-snoc}
@@ -38,16 +38,20 @@ module _ (S : Setting) (P : Machine (S .Total) → Type 0) where
 
 -- the log only grows: what it names, it goes on naming
 module _ (S : Setting) (j : ℕ) where
-  logged-more : (t : Turn (S .Total)) (i : ℕ) (l : List ℕ) → occurs j l ≤ occurs j (logged t i l)
-  unfolding logged occurs
-  logged-more passes i l = omega arith
-  logged-more (holds h) i l = omega arith
-  logged-more loses i l = omega arith
-  logged-more (finishes a) i l = rw (count-snoc (eqb j) l i) (go (eqb j i))
+  snoc-more : (i : ℕ) (l : List ℕ) → occurs j l ≤ occurs j (l ++ (i ∷ []))
+  unfolding occurs
+  snoc-more i l = rw (count-snoc (eqb j) l i) (go (eqb j i))
     where
       go : (z : Bool) → countOf (eqb j) l ≤ cond z (suc (countOf (eqb j) l)) (countOf (eqb j) l)
       go true = omega arith
       go false = omega arith
+
+  logged-more : (t : Turn (S .Total)) (i : ℕ) (l : List ℕ) → occurs j l ≤ occurs j (logged t i l)
+  unfolding logged
+  logged-more passes i l = omega arith
+  logged-more (holds h) i l = omega arith
+  logged-more loses i l = omega arith
+  logged-more (finishes a) i l = snoc-more i l
 
   pub log-grows : (m : Machine (S .Total)) (schedule : List ℕ) → occurs j (m .log) ≤ occurs j (foldl (entry S) m schedule .log)
   unfolding idled taken

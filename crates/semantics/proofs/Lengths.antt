@@ -19,7 +19,8 @@ use Rattle.semantics.specs.Words.{Width, tombstoneKey, encode}
 use Rattle.semantics.specs.Narrow.{narrow, narrowWidth}
 use Rattle.semantics.specs.Wide.{flaggedIn, wideWidth}
 use Rattle.semantics.specs.Text.{text, decimalIn, decimal, textsBelow}
-use Rattle.semantics.specs.Listing.{kindWords, kindWord, codeWords, codeWord, narrowText, wideText, refusalText, countsText, operationText, answerText, rowText, logText, contentsText, cellText, runText, listing}
+use Rattle.semantics.specs.Listing.{kindWords, kindWord, codeWords, codeWord, narrowText, wideText, refusalText, countsText}
+use Rattle.semantics.specs.Listing.{operationText, answerText, rowText, logText, contentsText, cellText, runText, listing}
 use Rattle.semantics.proofs.Booleans.{both}
 
 -- a text of at most n bytes

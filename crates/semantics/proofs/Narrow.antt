@@ -1,17 +1,18 @@
 -- The narrow width packs.
 -- Assumes nothing.
 use mathlib.Core.Path.{_≡_, refl, ap, ap₂, sym, subst, _∙_}
-use Prim.Native.Nat.{ℕ, _+_, _*_, _≤_, _<_, min}
-use mathlib.Core.Bool.{Bool, _||_, _&&_, Bool·beq}
+use Prim.Native.Nat.{ℕ, _+_, _*_, _≤_, min}
+use mathlib.Core.Bool.{_||_, _&&_}
 use native.Mathlib.Omega.{arith}
 use lib.Dec.{T, eqb, leb, eqb→eq, leb→le}
 use Rattle.semantics.specs.declared.Total.{Total}
 use Rattle.semantics.specs.Totals.{heldAt, plusAt}
 use Rattle.semantics.specs.Cells.{Cell, empty, tombstone, live}
-use Rattle.semantics.specs.Words.{isLiveKey, tombstoneKey, isKind, takesAmount, encode}
-use Rattle.semantics.specs.Narrow.{narrow, narrowCeiling, isNarrowTotal, keyOf, totalBits, tombstoneWord, cellAllowed, kindBits, bitsAboveKind, operationKey, amountBits, operationAllowed, narrowWidth, roomSum}
+use Rattle.semantics.specs.Words.{isLiveKey, isKind, takesAmount, encode}
+use Rattle.semantics.specs.Narrow.{narrow, narrowCeiling, isNarrowTotal, keyOf, totalBits, tombstoneWord, cellAllowed, narrowWidth, roomSum}
+use Rattle.semantics.specs.Narrow.{kindBits, bitsAboveKind, operationKey, amountBits, operationAllowed}
 use Rattle.semantics.proofs.Booleans.{compared, same-test, beq-refl, beq-sound, absorbs, join, both, either, passed}
-use Rattle.semantics.proofs.Words.{live-bounds, Packs, Packed, Packing}
+use Rattle.semantics.proofs.Words.{Packs, Packing}
 
 -- a narrow total is that of its amount
 pub total-small : (t : Total) → T (isNarrowTotal t) → t .amount ≤ narrowCeiling

@@ -2,9 +2,9 @@
 -- Assumes nothing.
 use mathlib.Core.Path.{_≡_, refl, sym, ap, ap₂, subst, _∙_}
 use Prim.Native.Nat.{ℕ, suc, _+_, _≤_, _<_}
-use mathlib.Core.List.{List, [], _∷_, _++_, map, append-nil, append-assoc, map-append}
+use mathlib.Core.List.{List, [], _∷_, _++_, map, append-assoc, map-append}
 use native.Mathlib.Omega.{arith}
-use lib.ListN.{length, getD, set, take, drop, replicate, length-replicate, length-map, length-append, length-set, length-drop, drop-of-length-le, List·getD-append}
+use lib.ListN.{length, getD, set, take, drop, length-map, length-append, length-set, length-drop, List·getD-append}
 use lib.Seq.{set-append-left, set-append-seam, append-snoc, take-at, drop-at, drop-drop, drop-cons, take-suc, length-take-le}
 use Rattle.semantics.specs.Run.{over}
 
@@ -12,11 +12,6 @@ module _ {A : Type 0} where
   pub over-none : (old : List A) → over [] old ≡ old
   unfolding over
   over-none old = refl
-
-  -- what is as long as the slice is all that is left
-  pub over-all : (w old : List A) → length old ≤ length w → over w old ≡ w
-  unfolding over
-  over-all w old h = ap (_++_ w) (drop-of-length-le old h) ∙ append-nil w
 
   -- what is written over what was written there before
   pub over-over : (w v old : List A) → length v ≡ length w → over w (over v old) ≡ over w old
@@ -57,13 +52,6 @@ module _ {A : Type 0} where
       ap₂ (λ a b. a ++ (v ++ drop (length v) b)) (take-at w (drop (length w) old) i long) behind
       ∙ sym (append-assoc w v (drop (length v) (drop (length w) old)))
       ∙ ap (_++_ (w ++ v)) further
-
--- a front that was lent and came back as zeros
-pub over-zeros : (n : ℕ) (old : List ℕ) {front : List ℕ} → n ≤ length old → front ≡ replicate (length (take n old)) 0
-    → front ++ drop n old ≡ over (replicate n 0) old
-unfolding over
-over-zeros n old h is =
-    ap₂ (λ f k. f ++ drop k old) (is ∙ ap (λ k. replicate k 0) (length-take-le n old h)) (sym (length-replicate {A = ℕ} n 0))
 
 -- a list mapped over the front, one element at a time
 pub map-next : {A B : Type 0} (f : A → B) (l : List A) (d : A) (i : ℕ) (old now : List B) {b : B} → i < length l → length l ≤ length old

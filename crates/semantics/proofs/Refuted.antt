@@ -2,7 +2,7 @@
 -- clause loosened so that such a result passes, its line here would fail.
 -- Assumes nothing.
 use mathlib.Core.Path.{_≡_, refl, ap}
-use Prim.Native.Nat.{ℕ, zero, suc, _<_, _≤_}
+use Prim.Native.Nat.{ℕ, _<_, _≤_}
 use mathlib.Core.Bool.{Bool, true, false, not}
 use mathlib.Core.List.{List, [], _∷_}
 use mathlib.Core.Option.{Option, none, some}
@@ -10,7 +10,6 @@ use native.Mathlib.Omega.{arith}
 use lib.Dec.{T, eqb, lit≤}
 use lib.ListN.{getD, length, replicate}
 use Rattle.semantics.specs.Basics as Basics
-use Rattle.semantics.specs.declared.Outcome.{Outcome}
 use Rattle.semantics.specs.Totals as Totals
 use Rattle.semantics.specs.declared.Total.{Total}
 use Rattle.semantics.specs.Words.{settingOf}
@@ -18,7 +17,7 @@ use Rattle.semantics.specs.Narrow.{narrow, narrowWidth}
 use Rattle.semantics.specs.Cells.{lookup}
 use Rattle.semantics.specs.Map as Map
 use Rattle.semantics.specs.TotalsRule as TotalsRule
-use Rattle.semantics.specs.Narrow.{cellWord as cell, operationWord as operation, packedAnswer as answer}
+use Rattle.semantics.specs.Narrow.{operationWord as operation, packedAnswer as answer}
 use Rattle.semantics.specs.Run.{Result, machine, acceptedResult, runResult, madeOutcome, refusedOutcome}
 use Rattle.semantics.specs.Demands.{cellsOf, operationsOf, replayOf, Linearizable, TotalsKept, Untouched, afterEntries, Demands}
 use Rattle.semantics.specs.Cases.{table, at, job, resultOf, fullTable}

@@ -9,9 +9,9 @@ use mathlib.Core.Option.{some}
 use native.Mathlib.Omega.{arith}
 use lib.Dec.{T, eqb}
 use lib.ListN.{length, getD, getElem?, length-set}
-use borrow.Author.Tests.{eqb-true, eqb-false}
+use borrow.Author.Tests.{eqb-false}
 use Rattle.semantics.specs.declared.Total.{Total}
-use Rattle.semantics.specs.Cells.{Setting, Cell, empty, tombstone, live, Kind, find, insert, update, add, remove, Operation, Answer, absent, full, totalOf}
+use Rattle.semantics.specs.Cells.{Setting, Cell, empty, Kind, find, insert, update, add, remove, Operation, Answer, absent, full, totalOf}
 use Rattle.semantics.specs.Step.{Pending, reading, holding, State, pending, finished, Row, Machine, idled}
 use Rattle.semantics.specs.Step.{Sight, own, free, other, sight, Fate, stays, ends, becomes, holds, Held, vacant, mine, finishes, passes, fresh, after}
 use Rattle.semantics.specs.Step.{makes, effect, readOwn, read, exhausted, bounded}

@@ -15,7 +15,7 @@ use lib.Seq.{getD-take}
 use borrow.Author.Tests.{ltb-false, leb-false, le-ltb}
 use Rattle.semantics.specs.declared.Total.{Total}
 use Rattle.semantics.specs.Basics.{isSome, someBelow}
-use Rattle.semantics.specs.Cells.{Setting, Cell, Operation, empty, live, keyed, isEmpty}
+use Rattle.semantics.specs.Cells.{Setting, Cell, Operation, empty, keyed, isEmpty}
 use Rattle.semantics.specs.Step.{placeOf}
 use Rattle.semantics.specs.Words.{Width, sizeAllowed, decode, decodeOperation, settingOf}
 use Rattle.semantics.specs.Refusals.{atFirst, Call, callOf, mostOperations, mostEntries, standsLower, isRepeated, isCutOff, isUnreachable}
@@ -24,7 +24,7 @@ use Rattle.semantics.proofs.Laws.{Lawful, Accepted}
 use Rattle.semantics.proofs.Lists.{elem-getD, elem-map-all}
 use Rattle.semantics.proofs.Table.{distance-back, keyed-is-live}
 use Rattle.semantics.proofs.Booleans.{affirmed, neither}
-use Rattle.semantics.proofs.Sizes.{allowed-lawful, allowed-bounds}
+use Rattle.semantics.proofs.Sizes.{allowed-lawful}
 use Rattle.semantics.proofs.Words.{Packed, Packs, Packing, decode-zero, decoded-at, decode-packs, decode-operation-packed}
 use Rattle.semantics.proofs.Searches.{none-below, none-some-below}
 use Rattle.semantics.proofs.Conditions.{none-met, none-accepts}

@@ -1,6 +1,6 @@
 -- The laws of totals under any ceiling.
 -- Assumes nothing.
-use mathlib.Core.Path.{_≡_, refl, ap, ap₂, sym, _∙_}
+use mathlib.Core.Path.{_≡_, refl, ap₂, sym, _∙_}
 use Prim.Native.Nat.{ℕ, _+_, min}
 use mathlib.Core.Bool.{Bool, true, false, _||_, Bool·beq, or-assoc, or-comm, or-true, or-false}
 use mathlib.Core.List.{List, [], _∷_}

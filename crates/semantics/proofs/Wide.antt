@@ -14,8 +14,8 @@ use Rattle.semantics.specs.Cells.{Cell, empty, tombstone, live}
 use Rattle.semantics.specs.Words.{isLiveKey, tombstoneKey, isKind, takesAmount, nothing, encode}
 use Rattle.semantics.specs.Wide.{wideCeiling, flaggedBits, flaggedIn, isWideTotal, isNothing, wideKeyOf, strayBits, wideCellWord, wideCellAllowed, wideWidth}
 use Rattle.semantics.specs.Wide.{wideOperationKey, wideKindBits, wideBitsAboveKind, wideOperationWord, wideOperationAllowed}
-use Rattle.semantics.proofs.Booleans.{compared, true-T, join, both, either, passed, right, left}
-use Rattle.semantics.proofs.Words.{live-bounds, live-key, Packs, Packed, Packing}
+use Rattle.semantics.proofs.Booleans.{compared, true-T, join, both, either, left}
+use Rattle.semantics.proofs.Words.{live-bounds, live-key, Packs, Packing}
 
 total-small : (t : Total) → T (isWideTotal t) → t .amount ≤ wideCeiling
 unfolding isWideTotal

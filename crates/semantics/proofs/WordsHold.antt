@@ -9,17 +9,15 @@ use native.Mathlib.Decide.{ℕ-discrete}
 use native.Mathlib.Numerals.{add-one}
 use native.Mathlib.Omega.{arith}
 use borrow.Author.Tests.{eq-eqb, ne-eqb}
-use lib.Dec.{T}
 use lib.ListN.{length, getD, getElem?, take, drop, length-take, length-map}
 use lib.Seq.{take-at, take-suc, take-take, getD-take, split-at}
 use Rattle.semantics.specs.Basics.{isSome, occurs}
 use Rattle.semantics.specs.declared.Refusal.{Refusal}
 use Rattle.semantics.specs.declared.Total.{Total}
-use Rattle.semantics.specs.Cells.{Setting, Cell, empty, Operation, Answer, keyed, lookup, usedCells}
+use Rattle.semantics.specs.Cells.{Setting, Cell, Operation, Answer, lookup}
 use Rattle.semantics.specs.Step.{doneCount, Row, Machine, answerIn, finishedIn}
 use Rattle.semantics.specs.Step.{entry, begin, run}
 use Rattle.semantics.specs.Map.{replay}
-use Rattle.semantics.specs.TotalsRule.{onlyFindsAndAdds, CellsSuffice, expected}
 use Rattle.semantics.specs.Words.{Width, decode, encode, decodeOperation, answerWord, settingOf}
 use Rattle.semantics.specs.Refusals.{Call, callOf}
 use Rattle.semantics.specs.Run.{Result, over, machine, answerOf, outcomeOf, acceptedResult, refusalOf, refusedResult, resultIf, runResult}

@@ -1,3 +1,4 @@
+-- Must be believed: what `run` and `report` promise rests on it.
 -- What the definitions use and the document takes for granted: options, tests, counts and searches.
 -- Assumes nothing.
 use Prim.Native.Nat.{ℕ, zero, suc}

@@ -1,3 +1,4 @@
+-- An aid, not to be believed: what the definitions come to on examples, computed by the prover.
 -- Document 01, "Worked in the room table": its starred cases, then further ones, the rows of one list. proofs/Cases.antt covers them by one
 -- claim, that each holds; and it shows three runs of which all that demand 3 asks is true.
 -- Tables have 8 cells where no other number stands. Slices for answers and log are as long as the operations where no length stands, and

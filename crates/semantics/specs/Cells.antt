@@ -1,3 +1,4 @@
+-- Must be believed: what `run` and `report` promise rests on it.
 -- Document 01, "Cells, rows, schedule": cells, operations and answers, over any type of totals.
 -- Assumes nothing.
 use Prim.Native.Nat.{ℕ}

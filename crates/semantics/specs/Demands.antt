@@ -1,3 +1,4 @@
+-- Must be believed, and read first: it is all that `run` promises.
 -- The theorem on one page: demands 1 to 3, of a call of the run and of what it leaves, at the end and after any number of its entries, at any
 -- width.
 -- `run::run` promises `Demands` of its own slices, for every call; proofs/WordsHold.antt proves it. That no call faults or runs for ever

@@ -1,3 +1,4 @@
+-- Must be believed: what `report` promises rests on it.
 -- Document 01, "A run in full": the text of a run, or of a refusal, at any width.
 -- Assumes nothing.
 use Prim.Native.Nat.{ℕ, min}

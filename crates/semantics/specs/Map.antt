@@ -1,3 +1,4 @@
+-- Must be believed: what `run` promises rests on it.
 -- Document 01, "The one-at-a-time map": a second statement of what is right. Its arms are its own: none of Step.antt's rules is used here.
 -- Demand 2, that any run is one of this map, is `Linearizable` of Demands.antt.
 -- Assumes nothing.

@@ -1,3 +1,4 @@
+-- Must be believed: what `run` and `report` promise rests on it.
 -- Document 01, "Cells, rows, schedule": the layouts of the narrow width, whose totals have sixteen bits.
 -- Assumes nothing.
 use Prim.Native.Nat.{ℕ, _+_, _*_, _/_, _%_, _^_}

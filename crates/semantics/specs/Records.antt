@@ -1,3 +1,4 @@
+-- Must be believed: what `report` promises rests on it.
 -- Files of records, whatever their marks and sizes: where the records of a file begin, and which is the first that is faulty.
 -- Assumes nothing.
 use Prim.Native.Nat.{ℕ, zero, suc}

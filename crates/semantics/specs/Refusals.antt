@@ -1,3 +1,4 @@
+-- Must be believed: what `run` and `report` promise rests on it.
 -- Document 01, "Where a call is turned away": the run's refusals 1 to 8, a list of conditions in table order. Of the words of a call, of any
 -- width; 7 and 8 are about the cells that they stand for.
 -- Assumes nothing.

@@ -1,3 +1,4 @@
+-- Must be believed: what `report` promises rests on it.
 -- Document 01, "A run in full": what the program writes for a file, whatever the file.
 -- Assumes nothing.
 use Prim.Native.Nat.{ℕ}
@@ -26,4 +27,5 @@ listed W totalText operations r = listing W totalText (r .outcome) operations (r
 unfoldable pub response : List ℕ → List ℕ
 response file =
     let refusal : Refusal = readerRefusal narrowFile file mostCells mostOperations mostEntries in
-    cond (eqb (refusal .number) 0) (listed narrowWidth narrowText (contents narrowFile file .operations) (runOf narrowWidth (contents narrowFile file))) (refusalText (refusal .number) (refusal .place))
+    cond (eqb (refusal .number) 0) (listed narrowWidth narrowText (contents narrowFile file .operations) (runOf narrowWidth (contents narrowFile file)))
+    (refusalText (refusal .number) (refusal .place))

@@ -1,3 +1,4 @@
+-- Must be believed: what `run` and `report` promise rests on it.
 -- Document 01, "What one step does" and "Where a call is turned away", on words: what a call of the run returns, and what each lent slice
 -- holds after it, for every call, at any width.
 -- Assumes nothing.

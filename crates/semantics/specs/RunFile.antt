@@ -1,3 +1,4 @@
+-- Must be believed: what `load` and `report` promise rests on it.
 -- Document 01, "The run file": marks, bodies and order of the records, the reader's refusals, and what it writes, for every call. What a mark
 -- stands for is a row of one table, `row`; what differs between the files of two widths is a `Layout`.
 -- Assumes nothing.

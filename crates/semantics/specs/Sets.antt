@@ -1,3 +1,4 @@
+-- Must be believed of the promises of bitset alone: what `run` promises of done is a count of rows, `doneCount` of Step.antt.
 -- Document 01, "What one step does": sets of places, each a number of 64 bits. "Finished rows are a set of 64 places, and the done count is
 -- its size." The size is the number of ones, `ones` of the library.
 -- Assumes nothing.

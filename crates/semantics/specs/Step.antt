@@ -1,3 +1,4 @@
+-- Must be believed: what `run` and `report` promise rests on it.
 -- Document 01, "What one step does": one atomic step on the one cell that it reads, an entry of the schedule, and the run.
 -- StepRules.antt has the document's own lines beside these definitions.
 -- Assumes nothing.

@@ -1,3 +1,4 @@
+-- An aid, not to be believed: each line is proved, by `refl`, of the definitions of Step.antt.
 -- Document 01, "What one step does", line by line: its read rules and new words, as the definitions of Step.antt compute them. Each line
 -- holds by `refl`, so a reader can hold the document beside this page and need not unfold the definitions.
 -- Assumes nothing.

@@ -1,3 +1,4 @@
+-- Must be believed: what `report` promises rests on it.
 -- Texts as bytes: what document 01, "A run in full", writes is made of these; and how a text is handed to a caller.
 -- Assumes nothing.
 use Prim.Native.Nat.{ℕ, zero, suc, _+_, _/_, _%_}

@@ -1,3 +1,4 @@
+-- Must be believed: what `run` and `report` promise rests on it.
 -- Document 01, "Cells, rows, schedule": totals, under any ceiling. "Totals 0 to 65,534 are true. Total 65,535 is pinned: at least that much." A
 -- total is an amount and whether it is saturated (document 01: pinned); the code declares it, in src/lib.rt.
 -- Assumes nothing.

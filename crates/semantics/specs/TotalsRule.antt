@@ -1,3 +1,4 @@
+-- Must be believed: what `run` promises rests on it.
 -- Document 01, "The totals rule, which is demand 3": what it asks of a run, and what each room then has. The rule itself, one claim about a
 -- whole schedule, is `TotalsKept` of Demands.antt.
 -- Assumes nothing.

@@ -1,3 +1,4 @@
+-- Must be believed of functions that serve both widths by a flag: what `run` and `report` promise is of the narrow width alone.
 -- The two widths by a Boolean, as code that serves both is told which layout its words have: false is the narrow width of document 01, true the
 -- wide one of document 02, "A4". "`roomrun` lists either width, a wide pinned total or amount as `atleast N`."
 -- Assumes nothing.

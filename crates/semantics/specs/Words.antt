@@ -1,3 +1,4 @@
+-- Must be believed: what `run` and `report` promise rests on it.
 -- Document 01, "Cells, rows, schedule": packed words of any width, table sizes and the home of a key. A width is a record of layouts; words meet
 -- the rules of the other files through `decode` and `encode`, which proofs/Words.antt shows to be inverse on the words that the checks
 -- accept. Narrow.antt has the width of document 01, Wide.antt that of document 02.

@@ -1,5 +1,6 @@
-// What the model returns, declared below every definition so that the definitions name the very
-// types that the code returns. This crate has no function: document 01 is stated in specs/.
+// Document 01 as definitions, with the theorems about them. What the model returns is declared here,
+// below every definition, so that the definitions name the very types that the code returns. This crate
+// has no function.
 
 // The limits of document 01: what a run takes, and what a reader of run files is lent room for.
 pub const MOST_CELLS: usize = 4096;
