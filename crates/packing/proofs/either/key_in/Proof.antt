@@ -1,0 +1,29 @@
+-- `packing::either::key_in` meets its contract.
+-- Assumes nothing.
+use Rattle.semantics.specs.Words.{Width}
+use Rattle.semantics.proofs.Widths.{if-wide, if-narrow}
+use borrow.Author.Needs.{needs}
+use Rattle.packing.proofs.either.key_in.Statement.{statement}
+use Rattle.packing.proofs.either.key_in.Tie as tie
+
+wide-operation-key-requires : tie.Need-wide-operation-key-requires
+wide-operation-key-requires c κs = search needs
+
+returns : tie.Need-returns
+returns c =
+    let test = c .before in
+    let w = test .before .args .operation in
+    if-wide (λ (W : Width). W .operationKey w) (test .if1 .taken) (c .wide-operation-key .ensures)
+
+operation-key-requires : tie.Need-operation-key-requires
+operation-key-requires c κs = search needs
+
+returns-2 : tie.Need-returns-2
+returns-2 c =
+    let test = c .before in
+    let w = test .before .args .operation in
+    if-narrow (λ (W : Width). W .operationKey w) (test .if1 .left) (c .operation-key .ensures)
+
+pub key-in-spec : {M : Type 1} → statement M
+key-in-spec =
+    tie.close (tie.spec wide-operation-key-requires returns operation-key-requires returns-2)
