@@ -33,17 +33,17 @@ use denote.Ref.{MutRef}
 use denote.Steps.{only, owned}
 use denote.Struct.Steps.{spelt}
 use denote.Struct.Laws as LL
-use Rattle.rule.specs.declared.Cell.{Cell}
-use Rattle.rule.specs.declared.Operation.{Operation}
-use Rattle.turn.specs.declared.Left.{Left}
+use Rattle.rules.specs.declared.effect.Cell.{Cell}
+use Rattle.rules.specs.declared.effect.Operation.{Operation}
+use Rattle.rules.specs.declared.turn.Left.{Left}
 use Rattle.step.specs.declared.Record.{Record}
 use Rattle.step.specs.Record.{stepTaken}
-use Rattle.rule.proofs.Cell as X
-use Rattle.rule.proofs.Cell.Laws as X′
-use Rattle.rule.proofs.Operation as O
-use Rattle.rule.proofs.Operation.Laws as O′
-use Rattle.turn.proofs.Left as L
-use Rattle.turn.proofs.Left.Laws as L′
+use Rattle.rules.proofs.effect.Cell as X
+use Rattle.rules.proofs.effect.Cell.Laws as X′
+use Rattle.rules.proofs.effect.Operation as O
+use Rattle.rules.proofs.effect.Operation.Laws as O′
+use Rattle.rules.proofs.turn.Left as L
+use Rattle.rules.proofs.turn.Left.Laws as L′
 use Rattle.step.proofs.Record as T
 use Rattle.step.proofs.Record.Laws as T′
 
@@ -140,7 +140,8 @@ module _ {M : Type 1} (𝓤 : URA M) (H : Heap 𝓤) (A : Atoms 𝓤) (W : Given
       sep 𝓤 (sem 𝓤 H A (MutRef ℓ κ T.the-row .own (record { ptr = (l, 0); name = δ; now = p }) (vptr l 0 ∷ []))) (sem 𝓤 H A (lent κ δ l)))))
   unfolding partOf
   lends-local ℓ κ p l is =
-      qed W (‵ (fat fullShare T′.mir l 0 (record-mach p)) ∷ []) ∵ use1 W (‵ (cellAt fullShare (T.the-row .mir) (record-mach p ∷ []) l 0)) (W .laws .at-raw fullShare T′.mir l 0 (record-mach p)) $
+      qed W (‵ (fat fullShare T′.mir l 0 (record-mach p)) ∷ []) ∵
+      use1 W (‵ (cellAt fullShare (T.the-row .mir) (record-mach p ∷ []) l 0)) (W .laws .at-raw fullShare T′.mir l 0 (record-mach p)) $
       record-owned ! p is $ move ! (1 ∷ 0 ∷ []) $ fjoin ! $ fpack ! (List Val) (λ vs. fsep (cellAt fullShare (T.the-row .mir) vs l 0) (T.the-row .own p vs)) (record-mach p ∷ []) $
       by ! (lends-ref 𝓤 H A W T.the-row ℓ κ p l 0)
 
@@ -149,7 +150,8 @@ module _ {M : Type 1} (𝓤 : URA M) (H : Heap 𝓤) (A : Atoms 𝓤) (W : Given
       (H .⇛ (sep 𝓤 (H .at fullShare T′.mir l 0 (record-mach p)) (sem 𝓤 H A (T.the-row .own p (record-mach p ∷ [])))))
   unfolding partOf
   local-back κ δ p l =
-      qed W (‵ (fdead κ) ∷ ‵ (lent κ δ l) ∷ ‵ (fres δ (T.the-row .coded .code p)) ∷ []) ∵ updating ! $ use3 W (later (‵ (mem T.the-row .lies p l 0))) (ref-back 𝓤 H A W T.the-row κ δ p l 0) $
+      qed W (‵ (fdead κ) ∷ ‵ (lent κ δ l) ∷ ‵ (fres δ (T.the-row .coded .code p)) ∷ []) ∵ updating ! $
+      use3 W (later (‵ (mem T.the-row .lies p l 0))) (ref-back 𝓤 H A W T.the-row κ δ p l 0) $
       await ! tt $ fpick ! (λ vs. fsplit ! $
       spelt ! T.the-row (Is T.the-row) (shows 𝓤 H A T.the-row) (LL.vals T.the-type T′.the-laws) (LL.tells T.the-type T′.the-laws) fullShare p vs l 0 $
       use1 W (‵ (fat fullShare T′.mir l 0 (record-mach p))) (W .laws .raw-at fullShare T′.mir l 0 (record-mach p)) $ at-once ! $ done !)

@@ -4,29 +4,26 @@
 use mathlib.Core.Path.{_≡_, refl, sym, ap, ap₂, _∙_}
 use Prim.Native.Nat.{ℕ, suc, _+_, _%_, _<_}
 use mathlib.Core.Bool.{Bool, true, false, cond, true≢false}
-use mathlib.Core.Option.{Option, none, some}
+use mathlib.Core.Option.{Option, some}
 use native.Mathlib.Nat.{mod-lt, mod-self, mod-eq-of-lt, suc-mod}
 use native.Mathlib.Decide.{ℕ-discrete}
 use native.Mathlib.Omega.{arith}
-use lib.Dec.{eqb}
 use borrow.Author.Tests.{eq-eqb, ne-eqb}
 use Rattle.semantics.specs.declared.Total.{Total}
-use Rattle.semantics.specs.Cells.{Setting, Cell, empty, tombstone, live, Operation, Answer, absent}
-use Rattle.semantics.specs.Step.{Turn, passes, holds, loses, finishes, Held, vacant, mine, Pending, reading, holding, State, pending, finished, fresh}
+use Rattle.semantics.specs.Cells.{Setting, Cell, Operation}
+use Rattle.semantics.specs.Step.{Turn, passes, holds, loses, finishes, Held, vacant, mine, Pending, reading, holding, State, pending, finished}
 use Rattle.semantics.specs.Step.{after, heldCell, sameCell, swapped, step, passed, placeOf}
 use Rattle.semantics.specs.Step as rules
-use Rattle.semantics.specs.Words.{settingAt, isKind, isLiveKey, homeIn}
-use Rattle.rule.specs.declared.Operation.{Operation as OperationParts}
-use Rattle.rule.specs.declared.Cell.{Cell as CellParts}
-use Rattle.rule.specs.declared.Answer.{Answer as AnswerParts}
-use Rattle.rule.specs.Values.{operationOf, cellOf, cellParts, answerParts}
-use Rattle.semantics.specs.Words.{cellFrom}
-use Rattle.turn.specs.declared.Turn.the-variants.{Lose, Finish, Refuse}
-use Rattle.turn.specs.Turn.{heldParts, turnParts, stores, leftBy, stepOf}
+use Rattle.semantics.specs.Words.{settingAt, isKind, homeIn}
+use Rattle.rules.specs.declared.effect.Operation.{Operation as OperationParts}
+use Rattle.rules.specs.declared.effect.Cell.{Cell as CellParts}
+use Rattle.rules.specs.Values.{operationOf, cellOf, answerParts}
+use Rattle.rules.specs.declared.turn.Turn.the-variants.{Refuse}
+use Rattle.rules.specs.Turn.{heldParts, turnParts, stores, leftBy, stepOf}
 use Rattle.step.specs.declared.Record.{Record}
 use Rattle.step.specs.declared.Stepped.{Stepped}
-use Rattle.step.specs.Record.{readingAt, begun, following, stageHeld, totalHeld, holdingWord, finishing, turned, heldAt, standing, isWithin, pendingOf, leftAt, stepTaken}
-use Rattle.step.proofs.Steps.{within, step-within, step-none}
+use Rattle.step.specs.Record.{readingAt, following, stageHeld, totalHeld, holdingWord, finishing, turned, heldAt, standing, isWithin, leftAt, stepTaken}
+use Rattle.step.proofs.Steps.{within, step-within}
 
 -- the following cell of the one at p passed is the one at p + 1
 following-mod : (c n : ℕ) → 0 < c → following c (n % c) ≡ suc n % c
@@ -48,11 +45,6 @@ module _ (c k : ℕ) where
 
   next-place : (p : ℕ) → 0 < c → following c (place p) ≡ place (suc p)
   next-place p h = following-mod c (homeIn c k + p) h ∙ ap (λ (z : ℕ). z % c) (omega arith)
-
-  -- "It begins reading at the key's home, with 0 cells passed."
-  pub record-fresh : homeIn c k < c → recordOf fresh ≡ begun (homeIn c k)
-  unfolding recordOf fresh
-  record-fresh below = ap begun (ap (λ (z : ℕ). z % c) (omega arith) ∙ mod-eq-of-lt below)
 
   module _ (ceiling : ℕ) where
     abbrev S : Setting
@@ -99,39 +91,6 @@ module _ (c k : ℕ) where
   record-stands (holding p vacant) = refl
   record-stands (holding p (mine t)) = refl
 
--- what a turn of the code says of the turn of the rules
-pub lost-turn : (t : Turn Total) → turnParts t ≡ Lose → t ≡ loses
-unfolding turnParts
-lost-turn passes e = cc
-lost-turn (holds h) e = cc
-lost-turn loses e = refl
-lost-turn (finishes a) e = cc
-
-unfoldable pub answerFrom : Turn Total → Answer Total
-answerFrom passes = absent
-answerFrom (holds h) = absent
-answerFrom loses = absent
-answerFrom (finishes a) = a
-
-pub finished-turn : (t : Turn Total) {a : AnswerParts} → turnParts t ≡ Finish a → (t ≡ finishes (answerFrom t)) × (a ≡ answerParts (answerFrom t))
-unfolding turnParts answerFrom
-finished-turn passes e = (cc, absurd (let z : _≡_ {A = ℕ} 0 1 = cc in omega arith))
-finished-turn (holds h) e = (cc, absurd (let z : _≡_ {A = ℕ} 0 1 = cc in omega arith))
-finished-turn loses e = (cc, absurd (let z : _≡_ {A = ℕ} 0 1 = cc in omega arith))
-finished-turn (finishes b) e = (refl, cc)
-
--- a cell whose key is live where it has one is what its parts say
-abbrev pub Keyed : Cell Total → Type 0
-Keyed empty = Unit {0}
-Keyed tombstone = Unit {0}
-Keyed (live k t) = isLiveKey k ≡ true
-
-pub cell-back : (x : Cell Total) → Keyed x → cellOf (cellParts x) ≡ x
-unfolding cellFrom cellParts isLiveKey
-cell-back empty h = refl
-cell-back tombstone h = refl
-cell-back (live k t) h = ap (λ (z : Bool). cond z (live k t) (cond (eqb k 0) empty tombstone)) h
-
 -- one step of an operation of a known kind, at the record of an unfinished state
 module _ (ceiling c : ℕ) (operation : OperationParts) (known : isKind (operation .kind) ≡ true) (s : Pending Total) (size : 0 < c)
     (less : passed (settingAt ceiling c) s < c) where
@@ -174,32 +133,3 @@ module _ (ceiling c : ℕ) (operation : OperationParts) (known : isKind (operati
       go : (s : Pending Total) → stores s (step S o s x .turn) ≡ false → step S o s x .cell ≡ x
       go (reading p) q = refl
       go (holding p h) q = swap p h (sameCell S x (heldCell S (o .key) h)) q
-
-  -- so on the parts of a cell the parts of what the rules leave there are left
-  pub step-of-cell : (x : Cell Total) → Keyed x → stepTaken ceiling c operation record-now (cellParts x)
-      ≡ record {
-        left = record { stores = stores s (stepped x .turn); cell = cellParts (stepped x .cell); turn = turnParts (stepped x .turn) };
-        progress = record-after x;
-      }
-  unfolding leftBy
-  step-of-cell x keyed = step-is (cellParts x) ∙ ap (λ (y : Cell Total). by-rules y) (cell-back x keyed) ∙ ap (λ (y : CellParts). stored y) (left-cell (stores s (stepped x .turn)) refl)
-    where
-      by-rules : Cell Total → Stepped
-      by-rules y = record { left = leftBy s (cellParts x) (stepped y); progress = record-after y }
-
-      stored : CellParts → Stepped
-      stored y = record { left = record { stores = stores s (stepped x .turn); cell = y; turn = turnParts (stepped x .turn) }; progress = record-after x }
-
-      left-cell : (z : Bool) → stores s (stepped x .turn) ≡ z → cond z (cellParts (stepped x .cell)) (cellParts x) ≡ cellParts (stepped x .cell)
-      left-cell true e = refl
-      left-cell false e = ap cellParts (sym (kept-cell x e))
-
--- "An entry naming a finished row changes nothing"
-pub step-idle : (ceiling c k : ℕ) (operation : OperationParts) (a : Answer Total) (x : CellParts)
-    → record { left = record { stores = false; cell = x; turn = Refuse }; progress = recordOf c k (finished a) } ≡ stepTaken ceiling c operation (recordOf c k (finished a)) x
-unfolding pendingOf standing recordOf
-step-idle ceiling c k operation a x = step-none ceiling c operation (recordOf c k (finished a)) x (go (isWithin c (finishing (answerParts a)))) refl
-  where
-    go : (z : Bool) → _≡_ {A = Option (Pending Total)} (cond z none none) none
-    go true = refl
-    go false = refl

@@ -9,10 +9,10 @@ use borrow.Author.Tests.{eq-eqb, ne-eqb, lt-ltb, le-ltb}
 use Rattle.semantics.specs.declared.Total.{Total}
 use Rattle.semantics.specs.Step.{Pending, reading, holding}
 use Rattle.semantics.proofs.Booleans.{both, true-T}
-use Rattle.rule.specs.declared.Operation.{Operation as OperationParts}
-use Rattle.rule.specs.declared.Cell.{Cell as CellParts}
-use Rattle.turn.specs.declared.Turn.the-variants.{Refuse}
-use Rattle.turn.specs.declared.Left.{Left}
+use Rattle.rules.specs.declared.effect.Operation.{Operation as OperationParts}
+use Rattle.rules.specs.declared.effect.Cell.{Cell as CellParts}
+use Rattle.rules.specs.declared.turn.Turn.the-variants.{Refuse}
+use Rattle.rules.specs.declared.turn.Left.{Left}
 use Rattle.step.specs.declared.Record.{Record}
 use Rattle.step.specs.declared.Stepped.{Stepped}
 use Rattle.step.specs.Record.{turned, heldAt, standing, isWithin, pendingOf, leftAt, stepTaken}

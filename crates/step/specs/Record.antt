@@ -1,3 +1,4 @@
+-- Must be believed of the promises of step alone: what `run` promises rests on semantics/specs.
 -- Document 01, "What one step does", on the records of the code: how a record turns, and what one step leaves of the record and of its cell,
 -- for any record and any cell. The rules are those of semantics/specs/Step.antt; proofs/Represents.antt shows that on the records of a run this
 -- is the step of that file.
@@ -8,16 +9,16 @@ use mathlib.Core.Option.{Option, none, some}
 use lib.Dec.{eqb, ltb}
 use Rattle.semantics.specs.declared.Total.{Total}
 use Rattle.semantics.specs.Step.{Held, vacant, mine, Pending, reading, holding}
-use Rattle.rule.specs.declared.Operation.{Operation as OperationParts}
-use Rattle.rule.specs.declared.Cell.{Cell as CellParts}
-use Rattle.rule.specs.declared.Answer.{Answer as AnswerParts}
+use Rattle.rules.specs.declared.effect.Operation.{Operation as OperationParts}
+use Rattle.rules.specs.declared.effect.Cell.{Cell as CellParts}
+use Rattle.rules.specs.declared.effect.Answer.{Answer as AnswerParts}
 use Rattle.semantics.specs.Words.{nothing}
-use Rattle.turn.specs.declared.Held.{Held as HeldParts}
-use Rattle.turn.specs.declared.Held.the-variants.{Vacant, Mine}
-use Rattle.turn.specs.declared.Turn.{Turn as TurnParts}
-use Rattle.turn.specs.declared.Turn.the-variants.{Pass, Hold, Lose, Finish, Refuse}
-use Rattle.turn.specs.declared.Left.{Left}
-use Rattle.turn.specs.Turn.{stepOf}
+use Rattle.rules.specs.declared.turn.Held.{Held as HeldParts}
+use Rattle.rules.specs.declared.turn.Held.the-variants.{Vacant, Mine}
+use Rattle.rules.specs.declared.turn.Turn.{Turn as TurnParts}
+use Rattle.rules.specs.declared.turn.Turn.the-variants.{Pass, Hold, Lose, Finish, Refuse}
+use Rattle.rules.specs.declared.turn.Left.{Left}
+use Rattle.rules.specs.Turn.{stepOf}
 use Rattle.step.specs.declared.Record.{Record}
 use Rattle.step.specs.declared.Stepped.{Stepped}
 

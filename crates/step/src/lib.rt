@@ -5,19 +5,19 @@
 ghost use mathlib.Core.Path.{_≡_};
 ghost use mathlib.Core.Bool.{false};
 ghost use Prim.Native.Nat.{_<_};
-ghost use Rattle.turn.specs.declared.Turn.the-variants.{Refuse};
-ghost use Rattle.turn.specs.Turn.{heldOf};
+ghost use Rattle.rules.specs.declared.turn.Turn.the-variants.{Refuse};
+ghost use Rattle.rules.specs.Turn.{heldOf};
 ghost use Rattle.step.specs.Record.{readingAt, passing, holdingWord, losing, finishing, turned, isWithin, heldAt, standing, leftAt, stepTaken};
-use rule::Answer;
-use rule::Cell;
-use rule::NOTHING;
-use rule::Operation;
+use rules::effect::Answer;
+use rules::effect::Cell;
+use rules::effect::NOTHING;
+use rules::effect::Operation;
+use rules::turn::Held;
+use rules::turn::Left;
+use rules::turn::Turn;
+use rules::turn::compare_and_swap;
+use rules::turn::read;
 use semantics::Total;
-use turn::Held;
-use turn::Left;
-use turn::Turn;
-use turn::compare_and_swap;
-use turn::read;
 
 // Where a record stands: reading, holding the empty word, holding its own key with a total, or
 // finished.

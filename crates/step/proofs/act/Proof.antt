@@ -9,8 +9,12 @@ use Rattle.step.proofs.Steps.{bounds, pending-is, step-within, step-non
 use Rattle.step.proofs.act.Statement.{statement}
 use Rattle.step.proofs.act.Tie as tie
 
+-- the contexts that the facts look back to
+abbrev start : tie.Then1 → tie.Start
+start c = c .before .before
+
 -- the record is within the table
-stands : (c : tie.Then1) → let a = c .before .before .args in isWithin (a .c) (a .from) ≡ true
+stands : (c : tie.Then1) → let a = start c .args in isWithin (a .c) (a .from) ≡ true
 stands c = sym (c .before .is-within .ensures) ∙ c .if1 .taken
 
 is-within-requires : tie.Need-is-within-requires

@@ -40,18 +40,18 @@ use denote.Triple.Table.{entered, cited}
 use denote.Triple.Walked.{says, Stays, stay-ref, stay-none, walkOf, goes-ref, goes-none, Walks, ends-at, walked, walk-meets}
 use denote.Exit.{yes}
 use denote.Signature.{plain}
-use Rattle.rule.specs.declared.Cell.{Cell}
-use Rattle.rule.specs.declared.Operation.{Operation}
-use Rattle.turn.specs.declared.Left.{Left}
+use Rattle.rules.specs.declared.effect.Cell.{Cell}
+use Rattle.rules.specs.declared.effect.Operation.{Operation}
+use Rattle.rules.specs.declared.turn.Left.{Left}
 use Rattle.step.specs.declared.Record.{Record}
 use Rattle.step.specs.declared.Stepped.{Stepped}
 use Rattle.step.specs.Record.{stepTaken}
 use Rattle.step.proofs.Lent.{record-mach, IsRecord, record-typed, record-owned, cell-mach, IsCell, cell-typed, cell-owned, operation-mach, IsOperation, operation-typed, operation-owned}
 use Rattle.step.proofs.Lent.{left-mach, IsLeft, left-typed, left-owned, ceiling-owned, size-owned, inputs-owned, Leaves, Unbound, unbound}
-use Rattle.rule.proofs.Cell as X
-use Rattle.rule.proofs.Cell.Laws as X′
-use Rattle.rule.proofs.Operation as O
-use Rattle.rule.proofs.Operation.Laws as O′
+use Rattle.rules.proofs.effect.Cell as X
+use Rattle.rules.proofs.effect.Cell.Laws as X′
+use Rattle.rules.proofs.effect.Operation as O
+use Rattle.rules.proofs.effect.Operation.Laws as O′
 use Rattle.step.proofs.Record as T
 use Rattle.step.proofs.Record.Laws as T′
 use Rattle.step.proofs.Stepped as S
@@ -131,7 +131,8 @@ module _ {M : Type 1} (𝓤 : URA M) (H : Heap 𝓤) (A : Atoms 𝓤) (W : Given
         pass1 ! (init ! 6 refl (operation-typed 𝓤 H A W op op-is)) $ pass1 ! (init ! 4 refl (tt, tt)) $ pass0 ! $
         -- [_7; …; _6; …; _5; …; _4; …; _3; …; _2; …; _1; …; room for _0; …; the token; what the parameters own]
         -- the record's borrow is opened, and the record is copied
-        move ! (17 ∷ []) $ fsplit ! $ drop ! $ fsplit ! $ drop ! $ fsplit ! $ drop ! $ fsplit ! $ drop ! $ fsplit ! $ fsplit3 ! $ drop ! $ move ! (19 ∷ []) $ split ! $ move ! (2 ∷ 3 ∷ 0 ∷ []) $
+        move ! (17 ∷ []) $ fsplit ! $ drop ! $ fsplit ! $ drop ! $ fsplit ! $ drop ! $ fsplit ! $ drop ! $ fsplit ! $ fsplit3 ! $ drop ! $
+        move ! (19 ∷ []) $ split ! $ move ! (2 ∷ 3 ∷ 0 ∷ []) $
         opens ! tt T.the-row {h = h} b o (λ vs. spelt ! T.the-row (Is T.the-row) (shows 𝓤 H A T.the-row) (LL.vals T.the-type T′.the-laws) (LL.tells T.the-type T′.the-laws) fullShare h vs b o $
         move ! (1 ∷ []) $ facts ! T.the-row (Is T.the-row) (shows 𝓤 H A T.the-row) h (record-mach h ∷ []) (λ g.
         -- [the record's cell; the open borrow; obs; auth; true at 4; …; _7 at 6; …; _6; …; _5; …; _4; …; _3; …; _2; …; _1; …; room for _0; …]
@@ -140,7 +141,8 @@ module _ {M : Type 1} (𝓤 : URA M) (H : Heap 𝓤) (A : Atoms 𝓤) (W : Given
         calls-at ! fm (Act 𝓤 H A at-mem run) known to-act
         (and-then ! (load ! (from ! (stop !)) (look ! 16 refl)) (and-then ! (load ! (from ! (stop !)) (look ! 12 refl)) (and-then ! (load ! (from ! (stop !)) (look ! 14 refl))
         (and-then ! (load ! (from ! (stop !)) (look ! 6 refl)) (and-then ! (load ! (from ! (stop !)) (look ! 18 refl)) (no-more !)))))) (λ w.
-        use1 W (later (some (λ (r : Stepped). (‵ ftrue ⊛ ‵ (S.the-row .own r (w ∷ []))) ⊛ raw (ensured 𝓤 H A act.ended (act.clauses 𝓤 H A at-mem run) tt act-arg tt r)))) (id⊢ 𝓤 _) $ await ! tt $
+        use1 W (later (some (λ (r : Stepped). (‵ ftrue ⊛ ‵ (S.the-row .own r (w ∷ []))) ⊛ raw (ensured 𝓤 H A act.ended (act.clauses 𝓤 H A at-mem run) tt act-arg tt r))))
+        (id⊢ 𝓤 _) $ await ! tt $
         pick ! (λ r.
         -- what `act` ensures
         split ! $ move ! (1 ∷ []) $ use1 W (some (λ (zs : Unbound). ‵ (lasts act.ended tt act-arg zs) ⊛ raw (fact 𝓤 (r ≡ stepTaken ceiling n op h x)))) (id⊢ 𝓤 _) $ pick ! (λ zs.
@@ -172,7 +174,8 @@ module _ {M : Type 1} (𝓤 : URA M) (H : Heap 𝓤) (A : Atoms 𝓤) (W : Given
       walk 𝓤 H A W mem run (κs .0) bounds (qs .0) (a .0) (a .1 .0) (a .1 .1 .0) (a .1 .1 .1 .0) (ref .ptr .0) (ref .ptr .1) (ref .name) (ref .now) (are .0) (are .1 .0 .1) (are .1 .1 .0 .1)
       (are .1 .1 .1 .0) C Λ fm known))
 
-advance-meets : {M : Type 1} (𝓤 : URA M) (H : Heap 𝓤) (A : Atoms 𝓤) → Given 𝓤 H A → (mem : Memory → SProp 𝓤) (run : Routine → Fun 𝓤) (𝓣 : Tables 𝓤 H) → Triple 𝓤 (𝓣 .C #step·act) (Act 𝓤 H A mem run)
+advance-meets : {M : Type 1} (𝓤 : URA M) (H : Heap 𝓤) (A : Atoms 𝓤) → Given 𝓤 H A → (mem : Memory → SProp 𝓤) (run : Routine → Fun 𝓤) (𝓣 : Tables 𝓤 H)
+    → Triple 𝓤 (𝓣 .C #step·act) (Act 𝓤 H A mem run)
     → Meets 𝓤 H A advance.signature (WpFn 𝓤 H (𝓣 .C) (𝓣 .Λ) code.function) (advance.spec 𝓤 H A mem run)
 advance-meets 𝓤 H A W mem run 𝓣 known =
     let cell = goes-none 𝓤 H A W 1 (λ _. X.the-row) yes (λ κs x f. refl) in

@@ -4,7 +4,7 @@ use mathlib.Core.Path.{sym, ap}
 use mathlib.Core.Bool.{Bool, cond}
 use borrow.Author.Tests.{eq-eqb, ne-eqb}
 use Rattle.semantics.specs.Step.{vacant, mine}
-use Rattle.turn.specs.Turn.{heldOf}
+use Rattle.rules.specs.Turn.{heldOf}
 use Rattle.step.specs.Record.{heldAt}
 use Rattle.step.proofs.held_at.Statement.{statement}
 use Rattle.step.proofs.held_at.Tie as tie

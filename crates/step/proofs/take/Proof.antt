@@ -5,12 +5,22 @@ use mathlib.Core.Option.{Option, some}
 use borrow.Author.Needs.{needs}
 use Rattle.semantics.specs.declared.Total.{Total}
 use Rattle.semantics.specs.Step.{Held, Pending, reading, holding}
-use Rattle.turn.specs.declared.Left.{Left}
-use Rattle.turn.specs.Turn.{stepOf}
+use Rattle.rules.specs.declared.turn.Left.{Left}
+use Rattle.rules.specs.Turn.{stepOf}
 use Rattle.step.specs.Record.{standing, leftAt}
 use Rattle.step.proofs.Steps.{stands-reading, stands-holding, stands-not}
 use Rattle.step.proofs.take.Statement.{statement}
 use Rattle.step.proofs.take.Tie as tie
+
+-- the contexts that the facts look back to
+abbrev start-of-else2 : tie.Else2 → tie.Start
+start-of-else2 c = c .before .before
+
+abbrev start-of-then2 : tie.Then2 → tie.Start
+start-of-then2 c = c .before .before
+
+abbrev then2 : tie.After-held-at → tie.Then2
+then2 c = c .before .before
 
 -- what a step leaves, by where its record stands; and by the word that it holds
 abbrev left-at : tie.Start → Option (Pending Total) → Left
@@ -40,8 +50,8 @@ returns-2 : tie.Need-returns-2
 unfolding leftAt
 returns-2 c =
     let held = c .before in
-    let second = held .before .before in
-    let start = second .before .before in
+    let second = then2 held in
+    let start = start-of-then2 second in
     c .compare-and-swap .ensures (start .args .c) (start .args .progress .passed)
     ∙ ap (swap-of start) (held .held-at .ensures)
     ∙ ap (left-at start) (stands-holding _ _ _ (second .before .if1 .left) (second .if2 .taken))
@@ -53,7 +63,7 @@ returns-3 : tie.Need-returns-3
 unfolding leftAt
 returns-3 c =
     let second = c .before in
-    c .refused .ensures ∙ ap (left-at (second .before .before)) (stands-not _ _ _ (second .before .if1 .left) (second .if2 .left))
+    c .refused .ensures ∙ ap (left-at (start-of-else2 second)) (stands-not _ _ _ (second .before .if1 .left) (second .if2 .left))
 
 pub take-spec : {M : Type 1} → statement M
 take-spec =

@@ -37,19 +37,19 @@ use denote.Triple.Clauses.{ensured, lasts}
 use denote.Triple.Table.{entered, cited}
 use denote.Triple.Walked.{says, Stays, stay-none, walkOf, goes-none, Walks, ends-at, walked, walk-meets}
 use denote.Exit.{yes}
-use Rattle.rule.specs.declared.Cell.{Cell}
-use Rattle.rule.specs.declared.Operation.{Operation}
-use Rattle.turn.specs.declared.Left.{Left}
+use Rattle.rules.specs.declared.effect.Cell.{Cell}
+use Rattle.rules.specs.declared.effect.Operation.{Operation}
+use Rattle.rules.specs.declared.turn.Left.{Left}
 use Rattle.step.specs.declared.Record.{Record}
 use Rattle.step.specs.declared.Stepped.{Stepped}
 use Rattle.step.proofs.Lent.{record-mach, IsRecord, record-typed, record-owned, cell-mach, IsCell, cell-typed, operation-mach, IsOperation, operation-typed}
 use Rattle.step.proofs.Lent.{left-mach, IsLeft, left-typed, left-told, left-is, inputs-owned, Leaves, unbound, lent, lends-local, local-back}
-use Rattle.rule.proofs.Cell as X
-use Rattle.rule.proofs.Cell.Laws as X′
-use Rattle.rule.proofs.Operation as O
-use Rattle.rule.proofs.Operation.Laws as O′
-use Rattle.turn.proofs.Left as L
-use Rattle.turn.proofs.Left.Laws as L′
+use Rattle.rules.proofs.effect.Cell as X
+use Rattle.rules.proofs.effect.Cell.Laws as X′
+use Rattle.rules.proofs.effect.Operation as O
+use Rattle.rules.proofs.effect.Operation.Laws as O′
+use Rattle.rules.proofs.turn.Left as L
+use Rattle.rules.proofs.turn.Left.Laws as L′
 use Rattle.step.proofs.Record as T
 use Rattle.step.proofs.Record.Laws as T′
 use Rattle.step.proofs.Stepped as S
@@ -103,10 +103,12 @@ module _ {M : Type 1} (𝓤 : URA M) (H : Heap 𝓤) (A : Atoms 𝓤) (W : Given
   advance-arg δ l = (x, (ceiling, (n, (op, (ref δ l, tt)))))
 
   abbrev to-advance : ℕ → GName → ℕ → Advance 𝓤 H A mem run .Ghost
-  to-advance ν δ l = (((ν ∷ [], tt), (fullShare, tt), tt, advance-arg δ l, (cell-mach x ∷ [], (vint w32 ceiling ∷ [], (vint w64 n ∷ [], (operation-mach op ∷ [], (vptr l 0 ∷ [], tt)))))), tt)
+  to-advance ν δ l =
+      (((ν ∷ [], tt), (fullShare, tt), tt, advance-arg δ l, (cell-mach x ∷ [], (vint w32 ceiling ∷ [], (vint w64 n ∷ [], (operation-mach op ∷ [], (vptr l 0 ∷ [], tt)))))), tt)
 
   goes : (ν : ℕ) (δ : GName) (l : ℕ)
-      → ent 𝓤 (sep 𝓤 (A .lft (ν ∷ []) fullShare) (sem 𝓤 H A (MutRef (named 0) (ν ∷ []) T.the-row .own (ref δ l) (vptr l 0 ∷ [])))) (Advance 𝓤 H A mem run .pre (to-advance ν δ l))
+      → ent 𝓤 (sep 𝓤 (A .lft (ν ∷ []) fullShare) (sem 𝓤 H A (MutRef (named 0) (ν ∷ []) T.the-row .own (ref δ l) (vptr l 0 ∷ []))))
+      (Advance 𝓤 H A mem run .pre (to-advance ν δ l))
   goes ν δ l =
       qed W (‵ (flft (ν ∷ []) fullShare) ∷ ‵ (MutRef (named 0) (ν ∷ []) T.the-row .own (ref δ l) (vptr l 0 ∷ [])) ∷ []) ∵ nothing ! $ move ! (1 ∷ 0 ∷ []) $ join ! $
       nothing ! $ move ! (2 ∷ 0 ∷ []) $ fjoin ! $ inputs-owned ! x ceiling n op x-is ceiling-fits n-fits op-is $ move ! (1 ∷ 0 ∷ []) $ join ! $ frame ! $ done !
@@ -114,7 +116,8 @@ module _ {M : Type 1} (𝓤 : URA M) (H : Heap 𝓤) (A : Atoms 𝓤) (W : Given
   exits : (l : Left) (p : Record) → IsLeft l (left-mach l) → IsRecord p → Leaves ceiling n op h x l p → ent 𝓤 (sem 𝓤 H A ftrue) (Post (LL.val S.the-type S′.the-laws (result l p)))
   exits l p l-is p-is d =
       qed W (‵ ftrue ∷ []) ∵
-      suffices ! _ (ends-at 𝓤 H A take-step.ended stayed (take-step.clauses 𝓤 H A mem run) W ((tt, tt, tt, a, vals), tt) (LL.val S.the-type S′.the-laws (result l p)) (result l p) unbound unbound) $
+      suffices ! _ (ends-at 𝓤 H A take-step.ended stayed (take-step.clauses 𝓤 H A mem run) W ((tt, tt, tt, a, vals), tt)
+      (LL.val S.the-type S′.the-laws (result l p)) (result l p) unbound unbound) $
       says ! (λ i. result (d .0 i) (d .1 i)) $ frame ! $
       nothing ! $ record-owned ! h g $ fjoin ! $ inputs-owned ! x ceiling n op x-is ceiling-fits n-fits op-is $
       owned ! S.the-row (Is S.the-row) (LL.makes S.the-type S′.the-plain 𝓤 H A) (result l p) _ (made l p l-is p-is) $ move ! (1 ∷ 0 ∷ []) $ done !
@@ -126,7 +129,8 @@ module _ {M : Type 1} (𝓤 : URA M) (H : Heap 𝓤) (A : Atoms 𝓤) (W : Given
     walk : ent 𝓤 (onEntry 𝓤 H A take-step.signature tt tt a vals) (WpFn 𝓤 H C Λ code.function given Post)
     walk =
         qed W (‵ ftrue ∷ ‵ (owns (X.the-row ∷ u32 ∷ u64 ∷ O.the-row ∷ T.the-row ∷ []) a vals) ∷ []) ∵ enter ! C Λ code.function given _ $
-        alloc1 ! (λ l₀. alloc1 ! (λ l₁. alloc1 ! (λ l₂. alloc1 ! (λ l₃. alloc1 ! (λ l₄. alloc1 ! (λ l₅. alloc1 ! (λ l₆. alloc1 ! (λ l₇. alloc1 ! (λ l₈. alloc1 ! (λ l₉. alloc0 ! $ params1 ! $
+        alloc1 ! (λ l₀. alloc1 ! (λ l₁. alloc1 ! (λ l₂. alloc1 ! (λ l₃. alloc1 ! (λ l₄. alloc1 ! (λ l₅. alloc1 ! (λ l₆. alloc1 ! (λ l₇. alloc1 ! (λ l₈.
+        alloc1 ! (λ l₉. alloc0 ! $ params1 ! $
         pass1 ! (init ! 16 refl (cell-typed 𝓤 H A W x x-is)) $ pass1 ! (init ! 14 refl (tt, record { fits = ceiling-fits })) $ pass1 ! (init ! 12 refl (tt, record { fits = n-fits })) $
         pass1 ! (init ! 10 refl (operation-typed 𝓤 H A W op op-is)) $ pass1 ! (init ! 8 refl (record-typed 𝓤 H A W h g)) $ pass0 ! $
         -- [_9; …; _8; …; _7; …; _6; …; _5; …; _4; …; _3; …; _2; …; _1; …; room for _0; …; true; what the parameters own, which is nothing]
@@ -134,7 +138,8 @@ module _ {M : Type 1} (𝓤 : URA M) (H : Heap 𝓤) (A : Atoms 𝓤) (W : Given
         assigns ! (addr ! (from ! (stop !))) (from ! (stop !)) (init ! 2 refl (tt, tt)) $
         -- `_6` is lent for a lifetime ν of the call
         move ! (6 ∷ []) $ lft-new ! tt (λ ν. move ! (1 ∷ []) $
-        use1 W (later (some (λ (δ : GName). ‵ (MutRef (named 0) (ν ∷ []) T.the-row .own (ref δ l₆) (vptr l₆ 0 ∷ [])) ⊛ ‵ (lent (ν ∷ []) δ l₆)))) (lends-local 𝓤 H A W (named 0) (ν ∷ []) h l₆ g) $
+        use1 W (later (some (λ (δ : GName). ‵ (MutRef (named 0) (ν ∷ []) T.the-row .own (ref δ l₆) (vptr l₆ 0 ∷ [])) ⊛ ‵ (lent (ν ∷ []) δ l₆))))
+        (lends-local 𝓤 H A W (named 0) (ν ∷ []) h l₆ g) $
         await ! tt $ pick ! (λ δ. split ! $
         -- [what the reference owns; the lender's part; ν's token; _9; …; _8; …; _7; …; what frees _6; _5; …; _4; …; _3; …; _2; …; _1; …; room for _0; …]
         move ! (2 ∷ 0 ∷ []) $ use2 W (raw (Advance 𝓤 H A mem run .pre (to-advance ν δ l₆))) (goes ν δ l₆) $

@@ -6,6 +6,13 @@ use Rattle.step.specs.Record.{stageHeld, totalHeld, holdingWord}
 use Rattle.step.proofs.Record.hold.Statement.{statement}
 use Rattle.step.proofs.Record.hold.Tie as tie
 
+-- the contexts that the facts look back to
+abbrev start-of-enum-told : tie.After-enum-told → tie.Start
+start-of-enum-told c = c .before .before
+
+abbrev start-of-known-told : tie.After-known-told → tie.Start
+start-of-known-told c = c .before .before .before
+
 enum-told : tie.Need-enum-told
 enum-told c = search needs
 
@@ -14,11 +21,11 @@ enum-known-held c = search needs
 
 returns : tie.Need-returns
 unfolding stageHeld totalHeld
-returns c = sym (ap (holdingWord (c .before .before .args .self)) (c .enum-told .given .1))
+returns c = sym (ap (holdingWord (start-of-enum-told c .args .self)) (c .enum-told .given .1))
 
 returns-2 : tie.Need-returns-2
 unfolding stageHeld totalHeld
-returns-2 c = sym (ap (holdingWord (c .before .before .before .args .self)) (c .before .held .given .1))
+returns-2 c = sym (ap (holdingWord (start-of-known-told c .args .self)) (c .before .held .given .1))
 
 pub hold-spec : {M : Type 1} → statement M
 hold-spec = tie.close (tie.spec enum-told enum-known-held returns returns-2)

@@ -6,6 +6,13 @@ use Rattle.step.specs.Record.{turned}
 use Rattle.step.proofs.Record.turn.Statement.{statement}
 use Rattle.step.proofs.Record.turn.Tie as tie
 
+-- the contexts that the facts look back to
+abbrev after-turn : tie.After-hold → tie.After-turn
+after-turn c = c .before .before
+
+abbrev after-turn2 : tie.After-finish → tie.After-turn2
+after-turn2 c = c .before .before
+
 enum-told : tie.Need-enum-told
 enum-told c = search needs
 
@@ -39,7 +46,7 @@ returns c = c .pass .ensures ∙ sym (ap (turned _ _) (c .before .enum-told .giv
 
 returns-2 : tie.Need-returns-2
 unfolding turned
-returns-2 c = c .hold .ensures ∙ sym (ap (turned _ _) (c .before .before .turn .given .1))
+returns-2 c = c .hold .ensures ∙ sym (ap (turned _ _) (after-turn c .turn .given .1))
 
 returns-3 : tie.Need-returns-3
 unfolding turned
@@ -47,7 +54,7 @@ returns-3 c = c .lose .ensures ∙ sym (ap (turned _ _) (c .before .enum-told2 .
 
 returns-4 : tie.Need-returns-4
 unfolding turned
-returns-4 c = c .finish .ensures ∙ sym (ap (turned _ _) (c .before .before .turn2 .given .1))
+returns-4 c = c .finish .ensures ∙ sym (ap (turned _ _) (after-turn2 c .turn2 .given .1))
 
 returns-5 : tie.Need-returns-5
 unfolding turned

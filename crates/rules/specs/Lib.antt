@@ -1,0 +1,3 @@
+pub mod Values
+pub mod Rule
+pub mod Turn

@@ -1,0 +1,149 @@
+// What each kind of operation does where its key has a total (document 01, "What one step does"):
+// the read rule and the new cell, chosen by one match over the kind. All of it is on values, under
+// any ceiling of totals; no packed word is seen.
+ghost use mathlib.Core.Path.{_≡_};
+ghost use mathlib.Core.Bool.{true};
+ghost use Prim.Native.Nat.{ℕ};
+ghost use Rattle.semantics.specs.Totals.{plusAt};
+ghost use Rattle.semantics.specs.Words.{isKind};
+ghost use Rattle.rules.specs.Rule.{ruleOf};
+use semantics::Total;
+
+// Document 01's numbers of the kinds are 1 find, 2 insert, 3 update, 4 add, 5 remove; its codes of the
+// answers are these. An operation that is not finished has code 0.
+pub const FOUND: u32 = 1;
+
+pub const INSERTED: u32 = 2;
+
+pub const PRESENT: u32 = 3;
+
+pub const CHANGED: u32 = 4;
+
+pub const REMOVED: u32 = 5;
+
+pub const ABSENT: u32 = 6;
+
+pub const FULL: u32 = 7;
+
+// The total of an answer that carries none, and of a tombstone.
+pub const NOTHING: Total = Total {
+    amount: 0,
+    saturated: false,
+};
+
+// An operation (document 01: a row): the number of its kind, its key and its amount.
+pub struct Operation {
+    pub kind: u8,
+    pub key: u16,
+    pub amount: Total,
+}
+
+// A cell is what its key says: empty under key 0, a tombstone under 65,535, live under any other.
+pub struct Cell {
+    pub key: u16,
+    pub total: Total,
+}
+
+// An answer: its code, and the total that it carries or 0.
+pub struct Answer {
+    pub code: u32,
+    pub total: Total,
+}
+
+// What a kind of operation does: whether it makes a missing key; and where its key has a total,
+// whether it finishes at the read, the cell that its swap stores, and what it answers.
+pub struct Rule {
+    pub known: bool,
+    pub makes: bool,
+    pub stays: bool,
+    pub cell: Cell,
+    pub answer: Answer,
+}
+
+// The sum of two totals, held at a ceiling.
+pub fn plus(ceiling: u32, a: Total, b: Total) -> Total
+    ensures { λ r. ⌜ r ≡ plusAt ceiling a b ⌝ }
+{
+    let sum = a.amount as u64 + b.amount as u64;
+    if sum < ceiling as u64 {
+        return Total {
+            amount: sum as u32,
+            saturated: a.saturated | b.saturated,
+        };
+    }
+    Total {
+        amount: ceiling,
+        saturated: true,
+    }
+}
+
+// Whether a number is a kind's, and any other refused: rule_of knows its rule. A read that passes on
+// needs no more of the rule than this.
+pub fn is_known(kind: u8) -> bool
+    ensures { λ r. ⌜ r ≡ isKind kind ⌝ }
+{
+    match kind {
+        1 => true,
+        2 => true,
+        3 => true,
+        4 => true,
+        5 => true,
+        _ => false,
+    }
+}
+
+// The read rule and the new cell of a kind, where the operation's key has a total; any other number
+// than a kind's is refused. The rule is the same in a table of any size.
+pub(crate) fn rule_of(ceiling: u32, operation: Operation, total: Total) -> Rule
+    ensures { λ r. ⌜ ((c : ℕ) → r ≡ ruleOf ceiling c operation total) ⌝ }
+{
+    let kind = operation.kind;
+    let key = operation.key;
+    let amount = operation.amount;
+    match kind {
+        1 => known(false, true, FOUND, total, key, total),
+        2 => known(true, true, PRESENT, total, key, total),
+        3 => known(false, false, CHANGED, total, key, amount),
+        4 => known(
+            true,
+            false,
+            CHANGED,
+            total,
+            key,
+            plus(ceiling, total, amount),
+        ),
+        5 => known(false, false, REMOVED, total, 65535, NOTHING),
+        _ => Rule {
+            known: false,
+            makes: false,
+            stays: false,
+            cell: Cell {
+                key: 0,
+                total: NOTHING,
+            },
+            answer: Answer {
+                code: 0,
+                total: NOTHING,
+            },
+        },
+    }
+}
+
+// The rule of a kind that answers a code with the old total, and stores a key with a new one.
+fn known(makes: bool, stays: bool, code: u32, old: Total, key: u16, new: Total) -> Rule
+    ensures { λ r. ⌜ r ≡ record { known = true; makes = makes; stays = stays; cell = record { key = key; total = new }; answer = record { code = code; total = old } } ⌝ }
+{
+    Rule {
+        known: true,
+        makes: makes,
+        stays: stays,
+        cell: Cell {
+            key: key,
+            total: new,
+        },
+        answer: Answer {
+            code: code,
+            total: old,
+        },
+    }
+}
