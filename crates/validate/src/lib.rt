@@ -1,6 +1,10 @@
 // The run's refusals 1 to 8 (document 01, "Where a call is turned away"), judged in table order: those
 // of the slices here, then those of the words and those of the whole table. A narrow table is lent to
 // them with an empty slice of wide cells.
+mod words; // words.rt: 4 to 6, the words of cells and operations, and the entries
+mod table; // table.rt: 7 and 8, the whole table
+mod keys; // keys.rt: the search for 7
+
 use semantics::MOST_ENTRIES;
 use semantics::MOST_OPERATIONS;
 use semantics::Refusal;
@@ -19,7 +23,7 @@ fn slices_number(
 ) -> u32
     ensures { λ r. ⌜ firstMet (slicesConditions (callOf (now (cells .entry)) (now (operations .entry)) (now (schedule .entry)) answers log)) ≡ record { number = r; place = 0 } ⌝ }
 {
-    if room::size_allowed(cells.len()) {
+    if hash::size_allowed(cells.len()) {
         if MOST_OPERATIONS < operations.len() {
             return 2;
         }
@@ -56,9 +60,9 @@ pub fn validate(
         };
     }
     let none = [0u64; 0];
-    let words = validate_words::words_refusal(cells, &none, false, operations, schedule);
+    let words = crate::words::words_refusal(cells, &none, false, operations, schedule);
     if words.number != 0 {
         return words;
     }
-    validate_table::table_refusal(cells, &none)
+    crate::table::table_refusal(cells, &none)
 }

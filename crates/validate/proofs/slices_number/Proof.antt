@@ -1,6 +1,6 @@
 -- `validate::slices_number` meets its contract, test by test.
 -- Assumes nothing.
-use mathlib.Core.Path.{_≡_, _∙_}
+use mathlib.Core.Path.{_≡_, sym, _∙_}
 use mathlib.Core.Bool.{or-true}
 use mathlib.Core.List.{[], _∷_}
 use native.Mathlib.Omega.{arith}
@@ -11,18 +11,39 @@ use borrow.Author.Needs.{needs}
 use Rattle.validate.proofs.slices_number.Statement.{statement}
 use Rattle.validate.proofs.slices_number.Tie as tie
 
+-- the contexts that the facts look back to
+abbrev start : tie.After-size-allowed → tie.Start
+start c = c .before .before .before .before
+
+abbrev after-size-allowed : tie.Then2 → tie.After-size-allowed
+after-size-allowed c = c .before .before
+
+abbrev then1-of-else3 : tie.Else3 → tie.Then1
+then1-of-else3 c = c .before .before
+
+abbrev then1-of-then3 : tie.Then3 → tie.Then1
+then1-of-then3 c = c .before .before
+
+abbrev else3-of-else5 : tie.Else5 → tie.Else3
+else3-of-else5 c = c .before .before
+
+abbrev else3-of-then5 : tie.Then5 → tie.Else3
+else3-of-then5 c = c .before .before
+
+abbrev start-of-then1 : tie.Then1 → tie.Start
+start-of-then1 c = start (c .before)
+
 -- with an allowed size and neither too many operations nor too many entries, refusal 3 decides
 within : (c : tie.Else3)
-    → let a = c .before .before .before .before .before .before .before .args in
+    → let a = start-of-then1 (then1-of-else3 c) .args in
     let call = callOf (a .cells .now) (a .operations .now) (a .schedule .now) (a .answers) (a .log) in
     firstMet (slicesConditions call) ≡ firstMet (tooShort call ∷ [])
 unfolding firstMet sizeNotAllowed tooMany
 within c =
-    let size = c .before .before in
-    let a = size .before .before .before .before .before .args in
+    let size = then1-of-else3 c in
+    let a = start-of-then1 size .args in
     rw (
-      ← size .before .size-allowed .ensures,
-      size .if1 .taken,
+      sym (size .before .size-allowed .ensures) ∙ size .if1 .taken,
       le-ltb 64 (length (a .operations .now)) (omega (arith, c .before .if2 .left)),
       le-ltb 16384 (length (a .schedule .now)) (omega (arith, c .if3 .left)),
     )
@@ -33,16 +54,16 @@ size-allowed-requires c κs = search needs
 returns : tie.Need-returns
 unfolding firstMet sizeNotAllowed tooMany tooShort
 returns c =
-    let n = length (c .before .before .before .before .before .before .args .operations .now) in
-    rw (← c .before .before .size-allowed .ensures, c .before .if1 .taken, lt-ltb 64 n (omega (arith, c .if2 .taken)))
+    let n = length (start-of-then1 (c .before) .args .operations .now) in
+    rw (← after-size-allowed c .size-allowed .ensures, c .before .if1 .taken, lt-ltb 64 n (omega (arith, c .if2 .taken)))
 
 returns-2 : tie.Need-returns-2
 unfolding firstMet sizeNotAllowed tooMany tooShort
 returns-2 c =
-    let entries = length (c .before .before .before .before .before .before .before .args .schedule .now) in
+    let entries = length (start-of-then1 (then1-of-then3 c) .args .schedule .now) in
     rw (
-      ← c .before .before .before .size-allowed .ensures,
-      c .before .before .if1 .taken,
+      ← then1-of-then3 c .before .size-allowed .ensures,
+      then1-of-then3 c .if1 .taken,
       lt-ltb 16384 entries (omega (arith, c .if3 .taken)),
       or-true,
     )
@@ -53,11 +74,11 @@ returns-3 c = within (c .before) ∙ rw (lt-ltb _ _ (c .if4 .taken))
 
 returns-4 : tie.Need-returns-4
 unfolding firstMet tooShort
-returns-4 c = within (c .before .before) ∙ rw (lt-ltb _ _ (c .if5 .taken), or-true)
+returns-4 c = within (else3-of-then5 c) ∙ rw (lt-ltb _ _ (c .if5 .taken), or-true)
 
 returns-5 : tie.Need-returns-5
 unfolding firstMet tooShort
-returns-5 c = within (c .before .before) ∙ rw (le-ltb _ _ (c .before .if4 .left), le-ltb _ _ (c .if5 .left))
+returns-5 c = within (else3-of-else5 c) ∙ rw (le-ltb _ _ (c .before .if4 .left), le-ltb _ _ (c .if5 .left))
 
 returns-6 : tie.Need-returns-6
 unfolding firstMet sizeNotAllowed tooMany tooShort

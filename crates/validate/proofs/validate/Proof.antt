@@ -6,9 +6,22 @@ use borrow.Author.Needs.{needs}
 use Rattle.validate.proofs.validate.Statement.{statement}
 use Rattle.validate.proofs.validate.Tie as tie
 
+-- the contexts that the facts look back to
+abbrev start : tie.After-slices-number → tie.Start
+start c = c .before .before .before .before
+
+abbrev after-words-refusal-of-else2 : tie.Else2 → tie.After-words-refusal
+after-words-refusal-of-else2 c = c .before .before
+
+abbrev after-words-refusal-of-then2 : tie.Then2 → tie.After-words-refusal
+after-words-refusal-of-then2 c = c .before .before
+
+abbrev else2 : tie.After-table-refusal → tie.Else2
+else2 c = c .before .before
+
 abbrev called : tie.After-slices-number → Call
 called c =
-    let a = c .before .before .before .before .args in
+    let a = start c .args in
     callOf (a .cells .now) (a .operations .now) (a .schedule .now) (a .answers) (a .log)
 
 -- the slices, as the parts after them see them
@@ -29,7 +42,7 @@ words-refusal-requires c κs = search needs
 
 returns-2 : tie.Need-returns-2
 returns-2 c =
-    let words = c .before .before in
+    let words = after-words-refusal-of-then2 c in
     let some = slices words in
     by-words (called (some .before)) (some .before .slices-number .ensures) (some .if1 .left) (words .words-refusal .ensures) (c .if2 .taken)
 
@@ -41,8 +54,8 @@ table-refusal-requires c κs = search needs
 
 returns-3 : tie.Need-returns-3
 returns-3 c =
-    let none = c .before .before in
-    let words = none .before .before in
+    let none = else2 c in
+    let words = after-words-refusal-of-else2 none in
     let some = slices words in
     by-table (called (some .before)) (some .before .slices-number .ensures) (some .if1 .left) (words .words-refusal .ensures) (none .if2 .left)
     (c .table-refusal .ensures)
