@@ -3,6 +3,8 @@
 // that it names, or is idle. What follows the checks is written once for both widths: the table and the
 // answers are two slices each, of narrow words and of wide ones, of which one is empty, and words are
 // taken apart and packed at this edge alone. What asks something of its caller is private here.
+pub mod outcome; // outcome.rt: what a run returns
+
 ghost use mathlib.Core.Path.{_≡_};
 ghost use mathlib.Core.List.{List};
 ghost use Prim.Native.Nat.{_+_, _≤_, _<_};
@@ -10,61 +12,49 @@ ghost use lib.Count.{ones};
 ghost use lib.ListN.{length, getD, set};
 ghost use Rattle.semantics.specs.Sets.{isIn, including};
 ghost use Rattle.semantics.specs.Refusals.{mostEntries};
-ghost use Rattle.semantics.specs.Narrow.{narrow, narrowWidth};
+ghost use Rattle.semantics.specs.Narrow.{narrowWidth};
 ghost use Rattle.semantics.specs.Wide.{wideWidth};
 ghost use Rattle.semantics.specs.Widths.{widthOf};
 ghost use Rattle.semantics.specs.Run.{machine, acceptedResult};
 ghost use Rattle.semantics.specs.Demands.{Demands};
 ghost use Rattle.step.specs.declared.Record.{Record};
-ghost use Rattle.step.specs.Record.{readingAt, begun, passing};
-ghost use Rattle.run.specs.Lent.{cellIn, operationIn, cellAt, placed, withAnswer, cleared, wordsIn, Ready};
-ghost use Rattle.run.specs.Entry.{storedBy, isPass, afterEntry};
-ghost use Rattle.run.specs.First.{firstRecords};
-use operation::operation_amount;
-use operation::operation_key;
-use operation::operation_kind;
-use outcome::made;
-use outcome::refused;
-use room::home;
-use rule::Answer;
-use rule::Cell;
-use rule::NOTHING;
-use rule::Operation;
-use rule::is_known;
-use semantics::MOST_OPERATIONS;
+ghost use Rattle.step.specs.Record.{begun, passing};
+ghost use Rattle.entry.specs.Lent.{cellIn, operationIn, cellAt, placed, withAnswer, cleared, wordsIn, Ready};
+ghost use Rattle.entry.specs.Entry.{storedBy, isPass, afterEntry};
+use crate::outcome::made;
+use crate::outcome::refused;
+use bitset::size;
+use bitset::with;
+use entry::begin;
+use entry::reading;
+use packing::either::key_in;
+use packing::either::kind_in;
+use packing::either::total_in;
+use packing::low_8;
+use packing::low_16;
+use packing::narrow::answer_word;
+use packing::narrow::cell_key;
+use packing::narrow::cell_total;
+use packing::narrow::cell_word;
+use packing::narrow::narrow_total;
+use packing::wide::wide_answer_word;
+use packing::wide::wide_cell_word;
+use packing::wide::wide_key;
+use packing::wide::wide_total;
+use rules::effect::Answer;
+use rules::effect::Cell;
+use rules::effect::Operation;
+use rules::effect::is_known;
+use rules::turn::Left;
+use rules::turn::Turn;
 use semantics::Outcome;
 use semantics::Total;
-use sets::size;
-use sets::with;
 use step::READING;
 use step::Record;
 use step::take_step;
-use turn::Left;
-use turn::Turn;
 use validate::validate;
-use wide::wide_answer_word;
-use wide::wide_cell_word;
-use wide::wide_key;
-use wide::wide_kind;
-use wide::wide_operation_key;
-use wide::wide_total;
-use word::answer_word;
-use word::cell_key;
-use word::cell_total;
-use word::cell_word;
-use word::low_8;
-use word::low_16;
 
-// The total that sixteen bits are, and the values of a narrow cell and of a wide one.
-fn narrow_total(bits: u16) -> Total
-    ensures { λ r. ⌜ r ≡ narrow bits ⌝ }
-{
-    Total {
-        amount: bits as u32,
-        saturated: bits == 65535,
-    }
-}
-
+// The values of a narrow cell and of a wide one.
 fn narrow_cell(w: u32) -> Cell
     ensures { λ r. ⌜ r ≡ cellIn narrowWidth w ⌝ }
 {
@@ -83,41 +73,14 @@ fn wide_cell(w: u64) -> Cell
     }
 }
 
-// The kind and the key of an operation, which is wide or narrow, and all its values.
-fn kind_of(flagged: bool, w: u64) -> u8
-    ensures { λ r. ⌜ r ≡ widthOf flagged .kindBits w ⌝ }
-{
-    if flagged {
-        return wide_kind(w);
-    }
-    operation_kind(w)
-}
-
-fn key_of(flagged: bool, w: u64) -> u16
-    ensures { λ r. ⌜ r ≡ widthOf flagged .operationKey w ⌝ }
-{
-    if flagged {
-        return wide_operation_key(w);
-    }
-    operation_key(w)
-}
-
-fn amount_of(flagged: bool, w: u64) -> Total
-    ensures { λ r. ⌜ r ≡ widthOf flagged .amountIn w ⌝ }
-{
-    if flagged {
-        return wide_total(w);
-    }
-    narrow_total(operation_amount(w))
-}
-
+// The values of an operation, which is wide or narrow.
 fn operation_of(flagged: bool, w: u64) -> Operation
     ensures { λ r. ⌜ r ≡ operationIn (widthOf flagged) w ⌝ }
 {
     Operation {
-        kind: kind_of(flagged, w),
-        key: key_of(flagged, w),
-        amount: amount_of(flagged, w),
+        kind: kind_in(w, flagged),
+        key: key_in(w, flagged),
+        amount: total_in(w, flagged),
     }
 }
 
@@ -249,19 +212,6 @@ struct Entered {
     lost: usize,
 }
 
-// The record of an operation that reads.
-fn reading(at: usize, passed: usize) -> Record
-    ensures { λ r. ⌜ r ≡ readingAt at passed ⌝ }
-{
-    Record {
-        at: at,
-        passed: passed,
-        stage: READING,
-        code: 0,
-        total: NOTHING,
-    }
-}
-
 // The record after a pass, of one that is known to stand within the table; of any record the pass is
 // step's own.
 fn passed_on(progress: Record, c: usize) -> Record
@@ -319,8 +269,8 @@ fn take_entry(
 {
     let at = progress.at;
     if is_pass(
-        kind_of(flagged, w),
-        key_of(flagged, w),
+        kind_in(w, flagged),
+        key_in(w, flagged),
         load_key(narrow, wide, at),
         c,
         progress,
@@ -370,23 +320,6 @@ fn clear_answers(answers32: &mut [u32], answers64: &mut [u64], n: usize)
         place(answers32, answers64, i, 0, 0);
         i = i + 1;
     }
-}
-
-// Each operation reads first at the home of its key. There is room for 64: any further ones have no
-// record.
-fn begin(flagged: bool, c: u32, operations: &[u64]) -> [Record; MOST_OPERATIONS]
-    ensures { λ r. ⌜ r ≡ firstRecords (widthOf flagged) c (now (operations .entry)) ⌝ }
-{
-    let mut records = [reading(0, 0); MOST_OPERATIONS];
-    let mut i = 0;
-    while i < MOST_OPERATIONS {
-        if i == operations.len() {
-            return records;
-        }
-        records[i] = reading(home(key_of(flagged, operations[i]), c) as usize, 0);
-        i = i + 1;
-    }
-    records
 }
 
 // Takes the schedule's entries in turn, on a call that is not turned away, wide or narrow.

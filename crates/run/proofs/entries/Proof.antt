@@ -14,24 +14,48 @@ use Rattle.semantics.specs.Run.{over, machine}
 use Rattle.semantics.proofs.Sizes.{allowed-bounds}
 use Rattle.semantics.proofs.Start.{Passed, accepted-call}
 use Rattle.semantics.proofs.Over.{over-length}
-use Rattle.run.specs.Lent.{Lent, laidIn, wordsIn, operationIn, cleared}
-use Rattle.run.specs.Entry.{Standing, afterEntry}
-use Rattle.run.specs.First.{firstRecords}
-use Rattle.run.proofs.Lent.{laid, laid-long, laid-words, cleared-laid}
-use Rattle.run.proofs.Loop.{At, at-start, table-slices, answers-slices, answers-long, log-long, at-end, at-idle, at-inside, at-below, passed-below, room, at-entry}
+use Rattle.entry.specs.Lent.{Lent, laidIn, wordsIn, operationIn, cleared}
+use Rattle.entry.specs.Entry.{Standing, afterEntry}
+use Rattle.entry.specs.First.{firstRecords}
+use Rattle.entry.proofs.Lent.{laid, laid-long, laid-words, cleared-laid}
+use Rattle.entry.proofs.Loop.{At, at-start, table-slices, answers-slices, answers-long, log-long, at-end, at-idle, at-inside, at-below, passed-below, room, at-entry}
 use Rattle.run.proofs.entries.Statement.{statement}
 use Rattle.run.proofs.entries.Tie as tie
 
 abbrev Inv-loop : tie.InvT-loop
-Inv-loop flagged narrow₀ wide₀ operations schedule answers32₀ answers64₀ log₀ c ceiling records₀ finished₀ lost₀ idle₀ k₀ narrow wide answers32 answers64 log records finished lost idle k =
+Inv-loop flagged narrow₀ wide₀ operations schedule answers32₀ answers64₀ log₀ c ceiling records₀ finished₀ lost₀ idle₀ k₀
+    narrow wide answers32 answers64 log records finished lost idle k =
     let cells = wordsIn flagged (record { narrow = narrow₀; wide = wide₀ }) in
     (k ≤ length schedule)
     × At flagged (length cells) (wordsIn flagged (record { narrow = answers32₀; wide = answers64₀ })) log₀ (machine (widthOf flagged) cells operations (take k schedule)) k
     (record { narrow = narrow; wide = wide }) records (record { narrow = answers32; wide = answers64 }) log finished lost idle
 
 abbrev μ-loop : tie.MeasureT-loop
-μ-loop flagged narrow₀ wide₀ operations schedule answers32₀ answers64₀ log₀ c ceiling records₀ finished₀ lost₀ idle₀ k₀ narrow wide answers32 answers64 log records finished lost idle k =
+μ-loop flagged narrow₀ wide₀ operations schedule answers32₀ answers64₀ log₀ c ceiling records₀ finished₀ lost₀ idle₀ k₀
+    narrow wide answers32 answers64 log records finished lost idle k =
     length schedule - k
+
+-- the contexts that the facts look back to
+abbrev start-of-slice-known5 : tie.After-slice-known5 Inv-loop μ-loop → tie.Start Inv-loop μ-loop
+start-of-slice-known5 c = c .before .before .before .before .before .before .before
+
+abbrev after-ceiling-of : tie.After-clear-answers-arg2 Inv-loop μ-loop → tie.After-ceiling-of Inv-loop μ-loop
+after-ceiling-of c = c .before .before
+
+abbrev after-clear-answers : tie.After-slice-known7 Inv-loop μ-loop → tie.After-clear-answers Inv-loop μ-loop
+after-clear-answers c = c .before .before .before .before
+
+abbrev at-loop : tie.After-made Inv-loop μ-loop → tie.At-loop Inv-loop μ-loop
+at-loop c = c .before .before
+
+abbrev in-loop : tie.After-is-finished Inv-loop μ-loop → tie.In-loop Inv-loop μ-loop
+in-loop c = c .before .before
+
+abbrev else1 : tie.After-take-entry-arg5 Inv-loop μ-loop → tie.Else1 Inv-loop μ-loop
+else1 c = c .before .before .before .before .before
+
+abbrev after-take-entry-arg5 : tie.After-take-entry-arg6 Inv-loop μ-loop → tie.After-take-entry-arg5 Inv-loop μ-loop
+after-take-entry-arg5 c = c .before .before
 
 -- what is lent, as words of one width, and that the checks let the call pass
 abbrev table : tie.Start Inv-loop μ-loop → Lent
@@ -63,23 +87,23 @@ table-size c = laid-long (c .args .flagged) (cells-of c) (table-laid c)
 
 -- the start of the function as the clearing of the answers sees it, and as the loop does; and the turn of an entry that is not idle
 abbrev clearing : tie.After-clear-answers Inv-loop μ-loop → tie.Start Inv-loop μ-loop
-clearing c = c .before .before .before .before .before .before .before .before .before .before .before
+clearing c = start-of-slice-known5 (after-ceiling-of (c .before) .before)
 
 abbrev clear-of : tie.After-begin Inv-loop μ-loop → tie.After-clear-answers Inv-loop μ-loop
-clear-of c = c .before .before .before .before .before
+clear-of c = after-clear-answers (c .before)
 
 abbrev start : tie.At-loop Inv-loop μ-loop → tie.Start Inv-loop μ-loop
 start c = clearing (clear-of (c .before))
 
 abbrev turn : tie.Else1 Inv-loop μ-loop → tie.In-loop Inv-loop μ-loop
-turn c = c .before .before .before
+turn c = in-loop (c .before)
 
 -- an entry that was taken, as the store of its record sees it, and the turn that it was taken in
 abbrev taken : tie.After-progress Inv-loop μ-loop → tie.After-take-entry Inv-loop μ-loop
 taken c = c .before .before .before .before .before .before .before .before .before .before .before
 
 abbrev open-entry : tie.After-take-entry Inv-loop μ-loop → tie.Else1 Inv-loop μ-loop
-open-entry c = c .before .before .before .before .before .before .before .before
+open-entry c = else1 (after-take-entry-arg5 (c .before))
 
 -- where the run stands at a turn
 abbrev standing : tie.At-loop Inv-loop μ-loop → Standing
@@ -136,18 +160,18 @@ room-for : (c : tie.At-loop Inv-loop μ-loop)
 room-for c = omega (arith, ok (start c) .answers, cleared-long (clear-of (c .before)))
 
 add-c : tie.Need-add-c Inv-loop μ-loop
-add-c c = record { fits = omega (arith, table-size (c .before .before .before .before .before .before .before), allowed-bounds _ (ok (c .before .before .before .before .before .before .before) .size)) }
+add-c c = record { fits = omega (arith, table-size (start-of-slice-known5 c), allowed-bounds _ (ok (start-of-slice-known5 c) .size)) }
 
 ceiling-of-requires : tie.Need-ceiling-of-requires Inv-loop μ-loop
 ceiling-of-requires c κs = search needs
 
 clear-answers-requires : tie.Need-clear-answers-requires Inv-loop μ-loop
 clear-answers-requires c κs =
-    let s = c .before .before .before .before .before .before .before .before .before .before in
+    let s = start-of-slice-known5 (after-ceiling-of c .before) in
     omega (arith, laid-long (s .args .flagged) (answers-of s) (answers-laid s), ok s .answers)
 
 cast-begin : tie.Need-cast-begin Inv-loop μ-loop
-cast-begin c = let s = clearing (c .before .before .before .before) in record { fits = omega (arith, table-size s, allowed-bounds _ (ok s .size)) }
+cast-begin c = let s = clearing (after-clear-answers c) in record { fits = omega (arith, table-size s, allowed-bounds _ (ok s .size)) }
 
 begin-requires : tie.Need-begin-requires Inv-loop μ-loop
 begin-requires c κs = search needs
@@ -174,7 +198,7 @@ is-finished-requires c κs = small (c .before)
 
 add-idle : tie.Need-add-idle Inv-loop μ-loop
 add-idle c =
-    let t = c .before .before .before in
+    let t = in-loop (c .before) in
     record { fits = omega (arith, t .before .loop .inv .1 .few, t .loop-test .taken, ok (start (t .before)) .short) }
 
 loop-less : tie.Need-loop-less Inv-loop μ-loop
@@ -182,7 +206,7 @@ loop-less c = search needs
 
 loop-again : tie.Need-loop-again Inv-loop μ-loop
 loop-again c =
-    let t = c .before .before .before in
+    let t = in-loop (c .before) in
     let s = start (t .before) in (
       omega (arith, t .loop-test .taken),
       at-idle (s .args .flagged) (ok s) (t .before .loop .inv .1) (t .loop-test .taken) refl (sym (c .before .is-finished .ensures) ∙ c .if1 .taken),
@@ -192,20 +216,20 @@ cast-i : tie.Need-cast-i Inv-loop μ-loop
 cast-i c = record { fits = omega (arith, small (turn c)) }
 
 mul-take-entry : tie.Need-mul-take-entry Inv-loop μ-loop
-mul-take-entry c = record { fits = omega (arith, small (turn (c .before .before .before .before .before))) }
+mul-take-entry c = record { fits = omega (arith, small (turn (else1 c))) }
 
 shared-slice-read-take-entry : tie.Need-shared-slice-read-take-entry Inv-loop μ-loop
-shared-slice-read-take-entry c = entry-below (turn (c .before .before .before .before .before .before))
+shared-slice-read-take-entry c = entry-below (turn (else1 (c .before)))
 
 mul-take-entry-2 : tie.Need-mul-take-entry-2 Inv-loop μ-loop
-mul-take-entry-2 c = record { fits = omega (arith, small (turn (c .before .before .before .before .before .before))) }
+mul-take-entry-2 c = record { fits = omega (arith, small (turn (else1 (c .before)))) }
 
 array-copy-out-take-entry : tie.Need-array-copy-out-take-entry Inv-loop μ-loop
-array-copy-out-take-entry c = small (turn (c .before .before .before .before .before .before))
+array-copy-out-take-entry c = small (turn (else1 (c .before)))
 
 take-entry-requires : tie.Need-take-entry-requires Inv-loop μ-loop
 take-entry-requires c κs =
-    let e = c .before .before .before .before .before .before .before in
+    let e = else1 (after-take-entry-arg5 c) in
     let a = turn e .before in
     let s = start a in
     let b = s .args .flagged in
@@ -234,37 +258,38 @@ loop-again-2 c =
     let a = turn e .before in
     let s = start a in
     let o = ok s in
-    let ceiling = clear-of (a .before) .before .before .before .ceiling-of .ensures in
+    let ceiling = after-ceiling-of (clear-of (a .before) .before) .ceiling-of .ensures in
     let size = table-size s in
     let i = getD (s .args .schedule .now) (a .loop .k) 0 in (
       omega (arith, turn e .loop-test .taken),
       at-entry (s .args .flagged) o (a .loop .inv .1) (turn e .loop-test .taken) refl (unfinished e) (room-for a) (o .log)
-          ((λ j. afterEntry (sym ceiling j) (sym size j) (operationIn (widthOf (s .args .flagged)) (getD (s .args .operations .now) i 0)) i (standing a)) ∙ taken c .take-entry .ensures (a .loop .records) refl),
+          ((λ j. afterEntry (sym ceiling j) (sym size j) (operationIn (widthOf (s .args .flagged)) (getD (s .args .operations .now) i 0)) i (standing a))
+          ∙ taken c .take-entry .ensures (a .loop .records) refl),
     )
 
 made-requires : tie.Need-made-requires Inv-loop μ-loop
 made-requires c κs = search needs
 
 same-length : tie.Need-same-length Inv-loop μ-loop
-same-length c = let a = c .before .before in let s = start a in table-slices (s .args .flagged) (ok s) (a .loop .inv .1) (table-laid s) .0
+same-length c = let a = at-loop c in let s = start a in table-slices (s .args .flagged) (ok s) (a .loop .inv .1) (table-laid s) .0
 
 same-length-2 : tie.Need-same-length-2 Inv-loop μ-loop
-same-length-2 c = let a = c .before .before in let s = start a in table-slices (s .args .flagged) (ok s) (a .loop .inv .1) (table-laid s) .1
+same-length-2 c = let a = at-loop c in let s = start a in table-slices (s .args .flagged) (ok s) (a .loop .inv .1) (table-laid s) .1
 
 same-length-3 : tie.Need-same-length-3 Inv-loop μ-loop
 same-length-3 c =
-    let a = c .before .before in
+    let a = at-loop c in
     let s = start a in
     answers-slices (s .args .flagged) (ok s) (a .loop .inv .1) (room-for a) (answers-of s) (answers-laid s) (cleared-long (clear-of (a .before))) .0
 
 same-length-4 : tie.Need-same-length-4 Inv-loop μ-loop
 same-length-4 c =
-    let a = c .before .before in
+    let a = at-loop c in
     let s = start a in
     answers-slices (s .args .flagged) (ok s) (a .loop .inv .1) (room-for a) (answers-of s) (answers-laid s) (cleared-long (clear-of (a .before))) .1
 
 same-length-5 : tie.Need-same-length-5 Inv-loop μ-loop
-same-length-5 c = let a = c .before .before in let s = start a in log-long (s .args .flagged) (ok s) (a .loop .inv .1) (ok s .log)
+same-length-5 c = let a = at-loop c in let s = start a in log-long (s .args .flagged) (ok s) (a .loop .inv .1) (ok s .log)
 
 returns : tie.Need-returns Inv-loop μ-loop
 returns c =

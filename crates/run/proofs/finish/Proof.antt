@@ -2,10 +2,23 @@
 -- Assumes nothing.
 use mathlib.Core.Path.{ap}
 use lib.ListN.{set}
-use Rattle.run.proofs.Lent.{answer-is}
+use Rattle.entry.proofs.Lent.{answer-is}
 use borrow.Author.Needs.{needs}
 use Rattle.run.proofs.finish.Statement.{statement}
 use Rattle.run.proofs.finish.Tie as tie
+
+-- the contexts that the facts look back to
+abbrev start-of-low-8 : tie.After-low-8 → tie.Start
+start-of-low-8 c = c .before .before .before .before .before
+
+abbrev after-low-8 : tie.After-answer-word → tie.After-low-8
+after-low-8 c = c .before .before .before .before .before .before
+
+abbrev after-answer-word : tie.After-place → tie.After-answer-word
+after-answer-word c = c .before .before
+
+abbrev after-place : tie.After-with → tie.After-place
+after-place c = c .before .before .before .before .before .before
 
 cast-low-8 : tie.Need-cast-low-8
 cast-low-8 c = search needs
@@ -48,11 +61,11 @@ same-length-3 c = search needs
 
 returns : tie.Need-returns
 returns c =
-    let placed = c .before .before .before .before .before .before in
-    let words = placed .before .before in
-    let start = words .before .before .before .before .before .before .before .before .before .before .before in (
+    let placed = after-place c in
+    let words = after-answer-word placed in
+    let start = start-of-low-8 (after-low-8 words) in (
       c .with .ensures,
-      answer-is _ _ _ (words .before .before .before .before .before .before .low-8 .ensures) (words .before .low-16 .ensures) (words .answer-word .ensures)
+      answer-is _ _ _ (after-low-8 words .low-8 .ensures) (words .before .low-16 .ensures) (words .answer-word .ensures)
           (placed .before .wide-answer-word .ensures) (placed .place .ensures),
       ap (λ n. set (start .args .log .now) n (start .args .entry)) (c .before .size .ensures),
     )

@@ -1,6 +1,6 @@
 -- `run::is_finished` meets its contract.
 -- Assumes nothing.
-use Rattle.sets.proofs.Sets.{and-place}
+use Rattle.bitset.proofs.Sets.{and-place}
 use borrow.Author.Needs.{needs}
 use Rattle.run.proofs.is_finished.Statement.{statement}
 use Rattle.run.proofs.is_finished.Tie as tie

@@ -6,6 +6,10 @@ use borrow.Author.Needs.{needs}
 use Rattle.run.proofs.narrow_cell.Statement.{statement}
 use Rattle.run.proofs.narrow_cell.Tie as tie
 
+-- the contexts that the facts look back to
+abbrev after-cell-key : tie.After-narrow-total → tie.After-cell-key
+after-cell-key c = c .before .before
+
 cell-key-requires : tie.Need-cell-key-requires
 cell-key-requires c κs = search needs
 
@@ -16,7 +20,7 @@ narrow-total-requires : tie.Need-narrow-total-requires
 narrow-total-requires c κs = search needs
 
 returns : tie.Need-returns
-returns c = λ i. record { key = c .before .before .cell-key .ensures i; total = (c .narrow-total .ensures ∙ ap narrow (c .before .cell-total .ensures)) i }
+returns c = λ i. record { key = after-cell-key c .cell-key .ensures i; total = (c .narrow-total .ensures ∙ ap narrow (c .before .cell-total .ensures)) i }
 
 pub narrow-cell-spec : {M : Type 1} → statement M
 narrow-cell-spec =

@@ -1,21 +1,26 @@
 -- `run::operation_of` meets its contract.
 -- Assumes nothing.
+use mathlib.Core.Path.{_∙_}
+use Rattle.semantics.proofs.Widths.{amount-there}
 use borrow.Author.Needs.{needs}
 use Rattle.run.proofs.operation_of.Statement.{statement}
 use Rattle.run.proofs.operation_of.Tie as tie
 
-kind-of-requires : tie.Need-kind-of-requires
-kind-of-requires c κs = search needs
+kind-in-requires : tie.Need-kind-in-requires
+kind-in-requires c κs = search needs
 
-key-of-requires : tie.Need-key-of-requires
-key-of-requires c κs = search needs
+key-in-requires : tie.Need-key-in-requires
+key-in-requires c κs = search needs
 
-amount-of-requires : tie.Need-amount-of-requires
-amount-of-requires c κs = search needs
+total-in-requires : tie.Need-total-in-requires
+total-in-requires c κs = search needs
 
 returns : tie.Need-returns
-returns c = λ i. record { kind = c .before .before .kind-of .ensures i; key = c .before .key-of .ensures i; amount = c .amount-of .ensures i }
+returns c =
+    let a = c .before .before .before .args in
+    let amount = c .total-in .ensures ∙ amount-there (a .flagged) (a .w) in
+    λ i. record { kind = c .before .before .kind-in .ensures i; key = c .before .key-in .ensures i; amount = amount i }
 
 pub operation-of-spec : {M : Type 1} → statement M
 operation-of-spec =
-    tie.close (tie.spec kind-of-requires key-of-requires amount-of-requires returns)
+    tie.close (tie.spec kind-in-requires key-in-requires total-in-requires returns)

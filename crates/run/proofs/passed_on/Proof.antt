@@ -9,6 +9,16 @@ use borrow.Author.Needs.{needs}
 use Rattle.run.proofs.passed_on.Statement.{statement}
 use Rattle.run.proofs.passed_on.Tie as tie
 
+-- the contexts that the facts look back to
+abbrev start : tie.After-struct-known2 → tie.Start
+start c = c .before .before
+
+abbrev after-struct-known2-of-reading : tie.After-reading → tie.After-struct-known2
+after-struct-known2-of-reading c = c .before .before
+
+abbrev after-struct-known2-of-reading2 : tie.After-reading2 → tie.After-struct-known2
+after-struct-known2-of-reading2 c = c .before .before
+
 add-next : tie.Need-add-next
 add-next c = search needs
 
@@ -20,7 +30,7 @@ reading-requires c κs = search needs
 
 returns : tie.Need-returns
 returns c =
-    let a = c .before .before .before .before .args in
+    let a = start (after-struct-known2-of-reading c) .args in
     let at = a .progress .at in
     c .reading .ensures ∙ ap (λ (z : Bool). readingAt (cond z 0 (at + 1)) (a .progress .passed + 1)) (sym (eq-eqb (at + 1) (a .c) (c .before .if1 .taken)))
 
@@ -29,7 +39,7 @@ reading-requires-2 c κs = search needs
 
 returns-2 : tie.Need-returns-2
 returns-2 c =
-    let a = c .before .before .before .before .args in
+    let a = start (after-struct-known2-of-reading2 c) .args in
     let at = a .progress .at in
     c .reading2 .ensures ∙ ap (λ (z : Bool). readingAt (cond z 0 (at + 1)) (a .progress .passed + 1)) (sym (ne-eqb (at + 1) (a .c) (c .before .if1 .left)))
 

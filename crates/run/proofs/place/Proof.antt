@@ -1,6 +1,6 @@
 -- `run::place` meets its contract.
 -- Assumes nothing.
-use Rattle.run.proofs.Lent.{placed-narrow, placed-wide}
+use Rattle.entry.proofs.Lent.{placed-narrow, placed-wide}
 use borrow.Author.Needs.{needs}
 use Rattle.run.proofs.place.Statement.{statement}
 use Rattle.run.proofs.place.Tie as tie

@@ -10,6 +10,13 @@ use borrow.Author.Needs.{needs}
 use Rattle.run.proofs.run.Statement.{statement}
 use Rattle.run.proofs.run.Tie as tie
 
+-- the contexts that the facts look back to
+abbrev after-validate : tie.After-refused → tie.After-validate
+after-validate c = c .before .before .before
+
+abbrev then1 : tie.After-entries-arg3 → tie.Then1
+then1 c = c .before .before .before .before .before
+
 -- what the checks say, and the start of the function as they see it
 abbrev start : tie.After-validate → tie.Start
 start c = c .before .before .before .before .before .before .before
@@ -22,7 +29,7 @@ abbrev ran : tie.After-slice-known6 → tie.After-entries
 ran c = c .before .before .before .before .before .before .before .before
 
 abbrev taken-in : tie.After-entries → tie.Then1
-taken-in c = c .before .before .before .before .before .before
+taken-in c = then1 (c .before)
 
 -- a call that is not turned away
 number-0 : (c : tie.Then1)
@@ -40,7 +47,7 @@ slice-aggregate-entries-2 : tie.Need-slice-aggregate-entries-2
 slice-aggregate-entries-2 c = search needs
 
 entries-requires : tie.Need-entries-requires
-entries-requires c κs = record { cells-alone = refl; answers-alone = refl; accepted = number-0 (c .before .before .before .before .before) }
+entries-requires c κs = record { cells-alone = refl; answers-alone = refl; accepted = number-0 (then1 c) }
 
 same-length : tie.Need-same-length
 same-length c = search needs
@@ -64,7 +71,7 @@ same-length-4 c = search needs
 returns-2 : tie.Need-returns-2
 unfolding refusedResult
 returns-2 c =
-    let checked = c .before .before .before in
+    let checked = after-validate c in
     let a = start checked .args in
     let is = checked .validate .ensures in
     demands-of narrow-packing _ _ _ _ _ _

@@ -1,9 +1,19 @@
 -- `run::store` meets its contract.
 -- Assumes nothing.
-use Rattle.run.proofs.Lent.{stored-is, stored-none}
+use Rattle.entry.proofs.Lent.{stored-is, stored-none}
 use borrow.Author.Needs.{needs}
 use Rattle.run.proofs.store.Statement.{statement}
 use Rattle.run.proofs.store.Tie as tie
+
+-- the contexts that the facts look back to
+abbrev then1 : tie.After-cell-word → tie.Then1
+then1 c = c .before .before .before .before .before .before .before
+
+abbrev after-cell-word : tie.After-place → tie.After-cell-word
+after-cell-word c = c .before .before
+
+abbrev after-place : tie.After-slice-known4 → tie.After-place
+after-place c = c .before .before .before .before
 
 cast-low-16 : tie.Need-cast-low-16
 cast-low-16 c = search needs
@@ -28,9 +38,9 @@ same-length-2 c = search needs
 
 returns : tie.Need-returns
 returns c =
-    let placed = c .before .before .before .before in
-    let words = placed .before .before in
-    stored-is _ _ _ (c .before .before .before .before .before .before .before .before .before .before .before .before .before .if1 .taken)
+    let placed = after-place c in
+    let words = after-cell-word placed in
+    stored-is _ _ _ (then1 (after-cell-word (after-place c)) .if1 .taken)
     (words .before .low-16 .ensures) (words .cell-word .ensures) (placed .before .wide-cell-word .ensures) (placed .place .ensures)
 
 returns-2 : tie.Need-returns-2

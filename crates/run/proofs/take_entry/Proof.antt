@@ -6,22 +6,47 @@ use mathlib.Core.List.{List, [], _∷_}
 use native.Mathlib.Omega.{arith}
 use types.Run.{OneOf, miss}
 use denote.Enum.Declared.{tagOf}
-use Rattle.turn.specs.declared.Turn.{Turn}
-use Rattle.turn.proofs.Turn as turn
+use Rattle.rules.specs.declared.turn.Turn.{Turn}
+use Rattle.rules.proofs.turn.Turn as turn
 use Rattle.semantics.specs.Widths.{widthOf}
-use Rattle.rule.specs.declared.Operation.{Operation}
+use Rattle.rules.specs.declared.effect.Operation.{Operation}
 use Rattle.step.specs.declared.Record.{Record}
 use Rattle.step.specs.Record.{stepTaken}
-use Rattle.run.specs.Entry.{Standing, isPass}
-use Rattle.run.specs.Lent.{operationIn}
-use Rattle.run.proofs.Entry.{leaves-pass, leaves-finished, leaves-lost, leaves-other}
+use Rattle.entry.specs.Entry.{Standing, isPass}
+use Rattle.entry.specs.Lent.{operationIn}
+use Rattle.entry.proofs.Entry.{leaves-pass, leaves-finished, leaves-lost, leaves-other}
 use borrow.Author.Needs.{needs}
 use Rattle.run.proofs.take_entry.Statement.{statement}
 use Rattle.run.proofs.take_entry.Tie as tie
 
+-- the contexts that the facts look back to
+abbrev after-key-in : tie.After-load-key → tie.After-key-in
+after-key-in c = c .before .before .before
+
+abbrev after-is-pass-of-passed-on : tie.After-passed-on → tie.After-is-pass
+after-is-pass-of-passed-on c = c .before .before
+
+abbrev after-is-pass-of-load : tie.After-load → tie.After-is-pass
+after-is-pass-of-load c = c .before .before .before .before
+
+abbrev after-load : tie.After-take-step → tie.After-load
+after-load c = c .before .before
+
+abbrev after-take-step : tie.After-store-arg2 → tie.After-take-step
+after-take-step c = c .before .before .before .before
+
+abbrev after-slice-known7-of-enum-told : tie.After-enum-told → tie.After-slice-known7
+after-slice-known7-of-enum-told c = c .before .before
+
+abbrev after-slice-known7-of-turn : tie.After-turn → tie.After-slice-known7
+after-slice-known7-of-turn c = c .before .before
+
+abbrev after-turn : tie.After-finish-arg3 → tie.After-turn
+after-turn c = c .before .before .before .before
+
 -- the start of the function, as the test for a pass sees it, and where the run stands there, whatever its records are
 abbrev start : tie.After-is-pass → tie.Start
-start c = c .before .before .before .before .before .before .before .before .before .before .before
+start c = after-key-in (c .before) .before .before .before .before .before .before .before
 
 abbrev standing : tie.After-is-pass → List Record → Standing
 standing c records =
@@ -40,13 +65,13 @@ abbrev stored : tie.After-slice-known7 → tie.After-store
 stored c = c .before .before .before .before
 
 abbrev step-of : tie.After-slice-known7 → tie.After-take-step
-step-of c = stored c .before .before .before .before .before
+step-of c = after-take-step (stored c .before)
 
 abbrev loaded : tie.After-slice-known7 → tie.After-load
-loaded c = step-of c .before .before
+loaded c = after-load (step-of c)
 
 abbrev judged : tie.After-slice-known7 → tie.After-is-pass
-judged c = loaded c .before .before .before .before
+judged c = after-is-pass-of-load (loaded c)
 
 stepped : (c : tie.After-slice-known7)
     → let a = start (judged c) .args in
@@ -61,17 +86,17 @@ abbrev finished : tie.After-slice-known10 → tie.After-finish
 finished c = c .before .before .before .before .before .before
 
 abbrev known-turn : tie.After-slice-known10 → tie.After-turn
-known-turn c = finished c .before .before .before .before .before
+known-turn c = after-turn (finished c .before)
 
 -- a turn whose tag is among the keys of the last arm is none of another tag
 is-none : (ks : List ℕ) {x y : Turn} → OneOf ks (tagOf turn.the-type y) → (OneOf ks (tagOf turn.the-type x) → ⊥) → y ≡ x → ⊥
 is-none ks among other q = other (subst (λ (e : Turn). OneOf ks (tagOf turn.the-type e)) q among)
 
-kind-of-requires : tie.Need-kind-of-requires
-kind-of-requires c κs = search needs
+kind-in-requires : tie.Need-kind-in-requires
+kind-in-requires c κs = search needs
 
-key-of-requires : tie.Need-key-of-requires
-key-of-requires c κs = search needs
+key-in-requires : tie.Need-key-in-requires
+key-in-requires c κs = search needs
 
 load-key-requires : tie.Need-load-key-requires
 load-key-requires c κs = search needs
@@ -90,13 +115,13 @@ same-length-2 c = search needs
 
 returns : tie.Need-returns
 returns c = λ records at.
-    let test = c .before .before in
+    let test = after-is-pass-of-passed-on c in
     let keys = test .before in
-    let read = keys .before .before .before in
+    let read = after-key-in keys in
     let asked = start test .pre in
     let a = start test .args in
-    let kind = read .before .kind-of .ensures in
-    let own = read .key-of .ensures in
+    let kind = read .before .kind-in .ensures in
+    let own = read .key-in .ensures in
     let key = keys .load-key .ensures in
     leaves-pass (a .ceiling) (a .c) (operationIn (widthOf (a .flagged)) (a .w)) (a .entry) (standing test records) at (asked .1) (asked .2)
     ((λ i. isPass (sym kind i) (sym own i) (sym key i) (a .c) (a .progress)) ∙ sym (test .is-pass .ensures) ∙ c .before .if1 .taken)
@@ -112,19 +137,19 @@ take-step-requires : tie.Need-take-step-requires
 take-step-requires c κs = search needs
 
 store-requires : tie.Need-store-requires
-store-requires c κs = start (c .before .before .before .before .before .before .before .before .before .before) .pre .0
+store-requires c κs = start (after-is-pass-of-load (after-load (after-take-step c))) .pre .0
 
 enum-known-turn : tie.Need-enum-known-turn
 enum-known-turn c = search needs
 
 finish-requires : tie.Need-finish-requires
-finish-requires c κs = let asked = start (judged (c .before .before .before .before .before .before)) .pre in (asked .3, asked .4)
+finish-requires c κs = let asked = start (judged (after-slice-known7-of-turn (after-turn c))) .pre in (asked .3, asked .4)
 
 enum-told : tie.Need-enum-told
 enum-told c = search needs
 
 add-t48 : tie.Need-add-t48
-add-t48 c = record { fits = omega (arith, start (judged (c .before .before)) .pre .5) }
+add-t48 c = record { fits = omega (arith, start (judged (after-slice-known7-of-enum-told c)) .pre .5) }
 
 same-length-3 : tie.Need-same-length-3
 same-length-3 c = search needs
@@ -143,7 +168,7 @@ same-length-7 c = search needs
 
 returns-2 : tie.Need-returns-2
 returns-2 c = λ records at.
-    let arm = known-turn c .before .before in
+    let arm = after-slice-known7-of-turn (known-turn c) in
     let done = finished c .finish .ensures in
     leaves-finished _ _ _ _ (standing (judged arm) records) at (loaded arm .load .ensures) (stepped arm) (stored arm .store .ensures)
     (known-turn c .turn .given .1) (done .1) (done .2) (done .0)
@@ -156,7 +181,7 @@ same-length-9 c = search needs
 
 returns-3 : tie.Need-returns-3
 returns-3 c = λ records at.
-    let arm = c .before .before in
+    let arm = after-slice-known7-of-enum-told c in
     leaves-lost _ _ _ _ (standing (judged arm) records) at (loaded arm .load .ensures) (stepped arm) (stored arm .store .ensures)
     (c .enum-told .given .1)
 
@@ -178,8 +203,8 @@ pub take-entry-spec : {M : Type 1} → statement M
 take-entry-spec =
     tie.close
     (tie.spec
-    kind-of-requires
-    key-of-requires
+    kind-in-requires
+    key-in-requires
     load-key-requires
     is-pass-requires
     passed-on-requires

@@ -6,13 +6,13 @@ ghost use Rattle.semantics.specs.Run.{madeOutcome, refusedOutcome};
 use semantics::Outcome;
 
 // A run that was made: of the finished operations, a set of 64 places, the size counts.
-pub fn made(finished: u64, lost: usize, idle: usize) -> Outcome
+pub(crate) fn made(finished: u64, lost: usize, idle: usize) -> Outcome
     ensures { λ r. ⌜ r ≡ madeOutcome (ones finished) lost idle ⌝ }
 {
     Outcome {
         number: 0,
         place: 0,
-        done: sets::size(finished),
+        done: bitset::size(finished),
         lost: lost,
         idle: idle,
     }

@@ -1,3 +1,4 @@
+-- An aid, not to be believed: it stands in contracts of private functions alone.
 -- A table, or its answers, as the run is lent them: as two slices, of narrow words and of wide ones, of which one is empty.
 -- Assumes nothing.
 use mathlib.Core.Path.{_≡_}
@@ -12,9 +13,9 @@ use Rattle.semantics.specs.Wide.{wideCellWord, widePackedAnswer, wideWidth}
 use Rattle.semantics.specs.Widths.{widthOf}
 use Rattle.semantics.specs.Run.{over, refusalOf}
 use Rattle.semantics.specs.Lent.{lent}
-use Rattle.rule.specs.declared.Operation.{Operation}
-use Rattle.rule.specs.declared.Cell.{Cell}
-use Rattle.rule.specs.declared.Answer.{Answer}
+use Rattle.rules.specs.declared.effect.Operation.{Operation}
+use Rattle.rules.specs.declared.effect.Cell.{Cell}
+use Rattle.rules.specs.declared.effect.Answer.{Answer}
 
 -- the two slices; and some words of one width, as they are lent
 pub record Lent : Type 0 where

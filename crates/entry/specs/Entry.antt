@@ -1,3 +1,4 @@
+-- An aid, not to be believed: it stands in contracts of private functions alone.
 -- Document 01, "What one step does": what an entry that names an unfinished row leaves, on the words and records of the code. The step is that
 -- of step/specs/Record.antt.
 -- Assumes nothing.
@@ -9,13 +10,13 @@ use lib.Dec.{eqb}
 use lib.ListN.{getD, set}
 use Rattle.semantics.specs.Sets.{including}
 use Rattle.semantics.specs.Words.{isKind}
-use Rattle.rule.specs.declared.Operation.{Operation}
-use Rattle.turn.specs.declared.Turn.{Turn}
-use Rattle.turn.specs.declared.Turn.the-variants.{Pass, Hold, Lose, Finish, Refuse}
-use Rattle.turn.specs.declared.Left.{Left}
+use Rattle.rules.specs.declared.effect.Operation.{Operation}
+use Rattle.rules.specs.declared.turn.Turn.{Turn}
+use Rattle.rules.specs.declared.turn.Turn.the-variants.{Pass, Hold, Lose, Finish, Refuse}
+use Rattle.rules.specs.declared.turn.Left.{Left}
 use Rattle.step.specs.declared.Record.{Record}
 use Rattle.step.specs.Record.{begun, stepTaken}
-use Rattle.run.specs.Lent.{Lent, cellAt, withCell, withAnswer}
+use Rattle.entry.specs.Lent.{Lent, cellAt, withCell, withAnswer}
 
 -- where a run stands between two entries: the slices, every row's record, the set of finished rows and the lost swaps
 pub record Standing : Type 0 where

@@ -35,21 +35,21 @@ use Rattle.semantics.proofs.Words.{Packing, Packs, decode-encode, encode-decode
 use Rattle.semantics.proofs.Widths.{packing-of}
 use Rattle.semantics.proofs.WordsHold as hold
 use Rattle.semantics.proofs.Over.{over-none, over-over, over-get, over-set, over-next, over-length}
-use Rattle.sets.proofs.Sets.{in-none, in-including, size-none, size-including}
-use Rattle.room.proofs.Powers.{home-is as scaled-is}
-use Rattle.rule.specs.declared.Operation.{Operation as OperationParts}
-use Rattle.rule.specs.declared.Cell.{Cell as CellParts}
-use Rattle.rule.specs.Values.{operationOf, cellOf, cellParts, answerParts}
-use Rattle.turn.specs.declared.Left.{Left}
-use Rattle.turn.specs.Turn.{turnParts, stores, leftBy}
+use Rattle.bitset.proofs.Sets.{in-none, in-including, size-none, size-including}
+use Rattle.hash.proofs.Powers.{home-is as scaled-is}
+use Rattle.rules.specs.declared.effect.Operation.{Operation as OperationParts}
+use Rattle.rules.specs.declared.effect.Cell.{Cell as CellParts}
+use Rattle.rules.specs.Values.{operationOf, cellOf, cellParts, answerParts}
+use Rattle.rules.specs.declared.turn.Left.{Left}
+use Rattle.rules.specs.Turn.{turnParts, stores, leftBy}
 use Rattle.step.specs.declared.Record.{Record}
 use Rattle.step.specs.declared.Stepped.{Stepped}
 use Rattle.step.specs.Record.{begun, stepTaken}
 use Rattle.step.proofs.Represents.{recordOf, record-at, record-passed, step-is, kept-cell}
-use Rattle.run.specs.Lent.{Lent, laidIn, wordsIn, cellIn, operationIn, cellAt, withCell, withAnswer}
-use Rattle.run.specs.First.{blank, atHome, firstRecords}
-use Rattle.run.specs.Entry.{Standing, told, storedBy, afterEntry}
-use Rattle.run.proofs.Lent.{laid-words, laid-slices, cell-laid, with-cell-laid, with-answer-laid, laid-long}
+use Rattle.entry.specs.Lent.{Lent, laidIn, wordsIn, cellIn, operationIn, cellAt, withCell, withAnswer}
+use Rattle.entry.specs.First.{blank, atHome, firstRecords}
+use Rattle.entry.specs.Entry.{Standing, told, storedBy, afterEntry}
+use Rattle.entry.proofs.Lent.{laid-words, laid-slices, cell-laid, with-cell-laid, with-answer-laid, laid-long}
 
 -- the record of a row, in c cells
 abbrev rowRecord : ℕ → Row Total → Record

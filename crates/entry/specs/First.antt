@@ -1,3 +1,4 @@
+-- Must be believed of the promise of entry::begin alone: what `run` and `report` promise rests on semantics/specs.
 -- The records of a run's operations before the first entry.
 -- Assumes nothing.
 use Prim.Native.Nat.{ℕ}

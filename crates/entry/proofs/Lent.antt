@@ -22,12 +22,12 @@ use Rattle.semantics.proofs.Lent.{lent-narrow, lent-wide}
 use Rattle.semantics.proofs.Over.{over-none, over-length, over-next}
 use Rattle.semantics.proofs.Narrow.{total-small}
 use Rattle.semantics.proofs.Words.{Packs}
-use Rattle.rule.specs.declared.Cell.{Cell as CellParts}
-use Rattle.rule.specs.declared.Answer.{Answer as AnswerParts}
-use Rattle.rule.specs.Values.{cellParts, answerParts}
-use Rattle.turn.specs.declared.Left.{Left}
-use Rattle.run.specs.Entry.{storedBy}
-use Rattle.run.specs.Lent.{Lent, laidIn, wordsIn, othersIn, cellIn, cellAt, placed, withCell, withAnswer, cleared}
+use Rattle.rules.specs.declared.effect.Cell.{Cell as CellParts}
+use Rattle.rules.specs.declared.effect.Answer.{Answer as AnswerParts}
+use Rattle.rules.specs.Values.{cellParts, answerParts}
+use Rattle.rules.specs.declared.turn.Left.{Left}
+use Rattle.entry.specs.Entry.{storedBy}
+use Rattle.entry.specs.Lent.{Lent, laidIn, wordsIn, othersIn, cellIn, cellAt, placed, withCell, withAnswer, cleared}
 
 -- by the slice in which a place lies
 module _ (l : Lent) (at : ℕ) where

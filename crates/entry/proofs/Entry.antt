@@ -22,21 +22,21 @@ use Rattle.semantics.specs.Wide.{wideWidth}
 use Rattle.semantics.specs.Lent.{lent}
 use Rattle.semantics.proofs.Lists.{map-set}
 use Rattle.semantics.proofs.Booleans.{both, true-T, passed as test-passed}
-use Rattle.rule.specs.declared.Operation.{Operation}
-use Rattle.rule.specs.declared.Answer.{Answer}
-use Rattle.rule.specs.declared.Cell.{Cell}
-use Rattle.turn.specs.declared.Turn.{Turn}
-use Rattle.turn.specs.declared.Turn.the-variants.{Pass, Hold, Lose, Finish, Refuse}
-use Rattle.turn.specs.declared.Left.{Left}
-use Rattle.turn.specs.Turn.{turnSeen}
-use Rattle.turn.proofs.Turns.{seen-other, turn-on, step-read}
+use Rattle.rules.specs.declared.effect.Operation.{Operation}
+use Rattle.rules.specs.declared.effect.Answer.{Answer}
+use Rattle.rules.specs.declared.effect.Cell.{Cell}
+use Rattle.rules.specs.declared.turn.Turn.{Turn}
+use Rattle.rules.specs.declared.turn.Turn.the-variants.{Pass, Hold, Lose, Finish, Refuse}
+use Rattle.rules.specs.declared.turn.Left.{Left}
+use Rattle.rules.specs.Turn.{turnSeen}
+use Rattle.rules.proofs.Turns.{seen-other, turn-on, step-read}
 use Rattle.step.specs.declared.Record.{Record}
 use Rattle.step.specs.declared.Stepped.{Stepped}
 use Rattle.step.specs.Record.{begun, passing, turned, leftAt, stepTaken}
 use Rattle.step.proofs.Steps.{within, stands-reading, step-within}
-use Rattle.run.specs.Lent.{Lent, cellIn, cellAt, placed, withCell, withAnswer}
-use Rattle.run.specs.Entry.{Standing, told, storedBy, isPass, afterEntry}
-use Rattle.run.proofs.Lent.{placed-narrow, placed-wide}
+use Rattle.entry.specs.Lent.{Lent, cellIn, cellAt, placed, withCell, withAnswer}
+use Rattle.entry.specs.Entry.{Standing, told, storedBy, isPass, afterEntry}
+use Rattle.entry.proofs.Lent.{placed-narrow, placed-wide}
 
 -- a turn adds to no record and to no cell
 told-records : (t : Turn) (i : ℕ) (s : Standing) → told t i s .records ≡ s .records

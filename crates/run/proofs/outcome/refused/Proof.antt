@@ -1,8 +1,8 @@
--- `outcome::refused` meets its contract.
+-- `run::outcome::refused` meets its contract.
 -- Assumes nothing.
 use mathlib.Core.Path.{refl}
-use Rattle.outcome.proofs.refused.Statement.{statement}
-use Rattle.outcome.proofs.refused.Tie as tie
+use Rattle.run.proofs.outcome.refused.Statement.{statement}
+use Rattle.run.proofs.outcome.refused.Tie as tie
 
 returns : tie.Need-returns
 returns c = refl
