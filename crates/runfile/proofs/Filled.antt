@@ -17,7 +17,7 @@ use Rattle.semantics.specs.Records.{faultAt, records}
 use Rattle.semantics.specs.RunFile.{Layout, row, Contents, byteAt, pairAt, cellWordAt, operationWordAt, entriesAt, markAt, mayFollow, past, nextOf, start, runFile, load, contents, acceptedReading}
 use Rattle.semantics.proofs.Over.{over-none, over-length, over-set, over-next, over-more}
 use Rattle.semantics.proofs.Records.{Folding, judgement, scan-less, fold-starts, fold-sound, fold-goes-on, fold-ends}
-use Rattle.runfile.proofs.Judged.{Sound, sound, scannable, is-known, size-small, inside, few, short}
+use Rattle.runfile.proofs.Judged.{Sound, sound, scannable, within, is-known, size-small, inside, few, short}
 use Rattle.io.specs.Counts.{Counts}
 use Rattle.runfile.specs.Stored.{stored}
 
@@ -162,6 +162,9 @@ module _ {L : Layout} {file : List ℕ} {s₀ : Contents} {p : Position} {s : Co
     (accepted : judgement (runFile L) file (records (runFile L) file start) .number ≡ 0) where
   pub filling-sound : faultAt (runFile L) file p ≡ 0
   filling-sound = fold-sound (f .folding) accepted
+
+  pub filling-marked : p .at + 2 ≤ length file
+  filling-marked = omega (arith, within (sound L file p refl filling-sound))
 
   module _ (room : Room s₀) {q : Position} (past : q ≡ nextOf L file p) where
     pub filling-less : length file - q .at < length file - p .at

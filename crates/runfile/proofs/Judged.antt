@@ -18,16 +18,17 @@ use Rattle.semantics.specs.declared.Mark.the-variants.{Table, Cell, Operation, 
 use Rattle.semantics.specs.declared.Position.{Position}
 use Rattle.semantics.specs.declared.Refusal.{Refusal}
 use Rattle.semantics.specs.Words.{sizeAllowed}
-use Rattle.semantics.specs.Refusals.{firstMet, mostOperations, mostEntries}
+use Rattle.semantics.specs.Refusals.{mostOperations, mostEntries}
 use Rattle.semantics.specs.Records.{faultAt}
 use Rattle.semantics.specs.RunFile.{Layout, layoutOf, row, byteAt, pairAt, markAt, mayFollow, sizeOf, past, nextOf, runFile, judged}
 use Rattle.semantics.specs.RunFile.{conditionsOf, conditionsAt, markCut, markWrong, bodyCut, bodyWrong, oneTooMany}
 use Rattle.semantics.proofs.Conditions.{none-met, met-here, met-late, alike-number}
 use Rattle.semantics.proofs.Records.{Scannable}
-use Rattle.semantics.proofs.Parts.{Agrees, rest-agrees, pair-agrees, mark-agrees, total-agrees}
+use Rattle.semantics.proofs.Parts.{Agrees, rest-agrees, pair-agrees, total-agrees}
 use Rattle.semantics.proofs.Sizes.{allowed-bounds}
 use Rattle.semantics.proofs.Booleans.{same-test, compared, neither, affirmed}
-use Rattle.faults.specs.Faults.{atFront, faultOf}
+use Rattle.record.specs.Faults.{atFront, faultOf}
+use Rattle.record.proofs.Order.{follows-nothing}
 
 -- what is read of the bytes from a record on is what is read in its place
 module _ (flagged : Bool) (file : List ℕ) (p : Position) where
@@ -66,24 +67,21 @@ module _ (flagged : Bool) (file : List ℕ) (p : Position) where
   mark-is-cut h =
       ap (λ (r : Refusal). r .number) (sym (met-here (markCut L file p) (conditionsOf L file p (markAt L file (p .at))) (lt-ltb (length file) (p .at + 2) h)))
 
-  on-rest : p .at + 2 ≤ length file → faultOf L rest p (markAt L rest 0) ≡ faultAt (runFile L) file p
+  on-rest : p .at + 2 ≤ length file → faultOf L rest p (markAt L file (p .at)) ≡ faultAt (runFile L) file p
   unfolding faultOf faultAt conditionsAt markCut markWrong bodyCut bodyWrong oneTooMany
   on-rest whole =
       let m = markAt L file (p .at) in
       let here = conditionsOf L file p m in
       let cut : ltb (length rest) (0 + sizeOf L rest 0 m) ≡ ltb (length file) (p .at + sizeOf L file (p .at) m) =
       same-test _ _ (λ t. omega (compared, length-drop (p .at) file, size-same m)) (λ t. omega (compared, length-drop (p .at) file, size-same m)) in
-      ap (λ n. firstMet (conditionsOf L rest (atFront p) n) .number) (mark-agrees same (omega arith) L)
-      ∙ alike-number (conditionsOf L rest (atFront p) m) here (refl, refl, (refl, cut, (refl, body-same m, (refl, count-same m, tt))))
+      alike-number (conditionsOf L rest (atFront p) m) here (refl, refl, (refl, cut, (refl, body-same m, (refl, count-same m, tt))))
       ∙ ap (λ (r : Refusal). r .number) (sym (met-late (markCut L file p ∷ []) here (le-ltb (length file) (p .at + 2) whole, tt)))
 
-  -- so the bytes from a whole mark on, lent as a part of the file, say why its record is turned away
-  pub by-rest : p .at + 2 ≤ length file → {m M : Mark} → m ≡ markAt L (take (length file - p .at) rest) 0 → m ≡ M → {n : ℕ}
-      → n ≡ faultOf L (take (length file - p .at) rest) p M → n ≡ faultAt (runFile L) file p
-  by-rest whole is told e =
-      let all = take-all (length file - p .at) rest (omega (arith, length-drop (p .at) file)) in
-      let mark = sym told ∙ is ∙ ap (λ l. markAt L l 0) all in
-      e ∙ (λ i. faultOf L (all i) p (mark i)) ∙ on-rest whole
+  -- so the bytes from a record with a whole mark on, lent as a part of the file, say why it is turned away
+  pub fault-by-rest : p .at + 2 ≤ length file → {m : Mark} → m ≡ markAt L file (p .at) → {n : ℕ}
+      → n ≡ faultOf L (take (length file - p .at) rest) p m → n ≡ faultAt (runFile L) file p
+  fault-by-rest whole is e =
+      let all = take-all (length file - p .at) rest (omega (arith, length-drop (p .at) file)) in e ∙ (λ i. faultOf L (all i) p (is i)) ∙ on-rest whole
 
   -- the scan passes a record that is not turned away, and no other
   module _ {n : ℕ} (is : n ≡ faultAt (runFile L) file p) where
@@ -107,15 +105,6 @@ module _ (L : Layout) (file : List ℕ) (p : Position) {j : Judged} (is : j ≡ 
   unfolding judged
   next-said z =
       ap (λ (k : Judged). k .next) is ∙ ap (λ b. cond b (nextOf L file p) p) (eq-eqb (faultAt (runFile L) file p) 0 (sym number-said ∙ z))
-
--- an unknown mark may follow nothing
-pub follows-nothing : (before : ℕ) → mayFollow before 0 ≡ false
-unfolding mayFollow
-follows-nothing before = go (eqb before 0)
-  where
-    go : (b : Bool) → cond b false false ≡ false
-    go true = refl
-    go false = refl
 
 -- what holds of a record that no condition turns away
 pub record Sound (L : Layout) (file : List ℕ) (p : Position) (m : Mark) : Type 0 where

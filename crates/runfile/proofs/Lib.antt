@@ -1,3 +1,4 @@
+pub mod Zeros
 pub mod Judged
 pub mod Refused
 pub mod Onward

@@ -1,6 +1,6 @@
 -- The reader's refusals: those of the slices and of the file's length come before those of the records.
 -- Assumes nothing.
-use mathlib.Core.Path.{_≡_, refl, sym, ap, ap₂, _∙_}
+use mathlib.Core.Path.{_≡_, sym, ap, ap₂, _∙_}
 use Prim.Native.Nat.{ℕ, _≤_, _<_}
 use mathlib.Core.Bool.{Bool, true, false, cond, _||_}
 use mathlib.Core.List.{List, [], _∷_}
@@ -9,10 +9,10 @@ use lib.Dec.{eqb, ltb}
 use lib.ListN.{length}
 use borrow.Author.Tests.{eq-eqb, ne-eqb, lt-ltb, le-ltb, ltb-false}
 use Rattle.semantics.specs.declared.Refusal.{Refusal}
-use Rattle.semantics.specs.Refusals.{Condition, firstMet}
+use Rattle.semantics.specs.Refusals.{Condition}
 use Rattle.semantics.specs.Records.{records, recordConditions}
 use Rattle.semantics.specs.RunFile.{Layout, start, runFile, sliceTooShort, fileTooLong, fileConditions, fileRefusal, readerRefusal, contents, acceptedReading, refusedReading, reading}
-use Rattle.semantics.proofs.Conditions.{NoneMet, none-met, met-here, met-late, early-accepts}
+use Rattle.semantics.proofs.Conditions.{none-met, met-here, met-late, early-accepts}
 use Rattle.semantics.proofs.Records.{judgement}
 use Rattle.semantics.proofs.Booleans.{neither}
 

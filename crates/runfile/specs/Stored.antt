@@ -1,3 +1,4 @@
+-- An aid, not to be believed: it stands in contracts of private functions alone.
 -- What the reader stores for one record of an accepted file, in slices that earlier records have filled in part.
 -- Assumes nothing.
 use mathlib.Core.Path.{_≡_}
@@ -11,7 +12,7 @@ use Rattle.semantics.specs.declared.Position.{Position}
 use Rattle.semantics.specs.Refusals.{mostOperations, mostEntries}
 use Rattle.semantics.specs.Records.{faultAt}
 use Rattle.semantics.specs.Run.{over}
-use Rattle.semantics.specs.RunFile.{Layout, Contents, byteAt, pairAt, cellWordAt, operationWordAt, entriesAt, mostCells, nextOf, runFile}
+use Rattle.semantics.specs.RunFile.{Layout, Contents, byteAt, pairAt, cellWordAt, operationWordAt, entriesAt, markAt, mostCells, nextOf, runFile}
 
 -- The cells are lent as two slices, one for each width, of which one is empty: those of the width that is read.
 abbrev pub lentCells : Bool → List ℕ → List ℕ → List ℕ
@@ -47,8 +48,10 @@ stored L file p Schedule s =
     }
 stored L file p Unknown s = s
 
--- what storing the record at p asks: it is not turned away, q is the position past it, and the slices have room for the most that a file may hold
-pub record Storable (L : Layout) (file : List ℕ) (p q : Position) (c n e : List ℕ) : Type 0 where
+-- what storing the record at p asks: m is its mark, it is not turned away, q is the position past it, and the slices have room for the most that a
+-- file may hold
+pub record Storable (L : Layout) (file : List ℕ) (m : Mark) (p q : Position) (c n e : List ℕ) : Type 0 where
+  pub mark : m ≡ markAt L file (p .at)
   pub sound : faultAt (runFile L) file p ≡ 0
   pub past : q ≡ nextOf L file p
   pub size : p .size ≤ mostCells

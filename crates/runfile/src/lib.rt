@@ -9,13 +9,14 @@ ghost use Prim.Native.Nat.{_+_, _<_, _≤_};
 ghost use lib.ListN.{length, set, replicate};
 ghost use Rattle.io.specs.Counts.{Counts};
 ghost use Rattle.semantics.specs.Run.{over};
-ghost use Rattle.semantics.specs.RunFile.{Layout, layoutOf, narrowFile, wideFile, flaggedAt, markAt, cellWordAt, operationWordAt, readerRefusal, contents, acceptedReading, reading};
+ghost use Rattle.semantics.specs.RunFile.{layoutOf, narrowFile, wideFile, flaggedAt, markAt, cellWordAt, operationWordAt, readerRefusal, contents, acceptedReading, reading};
 ghost use Rattle.runfile.specs.Stored.{lentCells, Rewritten, stored, Storable};
-use clear::clear;
-use clear::clear_wide;
-use mark::byte_at;
-use mark::pair_at;
-use operation::operation_word;
+use packing::narrow::cell_word;
+use packing::narrow::operation_word;
+use packing::wide::wide_cell_word;
+use packing::wide::wide_operation_word;
+use record::fields::byte_at;
+use record::fields::pair_at;
 use scan::file_refusal;
 use scan::mark_of;
 use scan::past;
@@ -28,9 +29,6 @@ use semantics::Mark;
 use semantics::Position;
 use semantics::Refusal;
 use semantics::Total;
-use wide::wide_cell_word;
-use wide::wide_operation_word;
-use word::cell_word;
 
 pub mod scan; // scan.rt: the records of a file, judged one by one
 
@@ -94,16 +92,20 @@ fn operation_at(file: &[u8], at: usize, flagged: bool) -> u64
 }
 
 // Of the two slices that the cells are lent as, the one of the width that is read: its first cells
-// emptied, or one cell stored.
+// emptied, or one cell stored. An empty cell's word is 0 in either width.
 fn clear_cells(narrow: &mut [u32], wide: &mut [u64], flagged: bool, size: usize)
     requires { ⌜ size ≤ length (lentCells flagged (now narrow) (now wide)) ⌝ }
     ensures { λ _. ⌜ Rewritten flagged (now (narrow .entry)) (now (wide .entry)) (now (narrow .exit)) (now (wide .exit)) (over (replicate size 0) (lentCells flagged (now (narrow .entry)) (now (wide .entry)))) ⌝ }
 {
-    if flagged {
-        clear_wide(&mut wide[..size]);
-        return;
+    let mut i = 0;
+    while i < size {
+        if flagged {
+            wide[i] = 0;
+        } else {
+            narrow[i] = 0;
+        }
+        i = i + 1;
     }
-    clear(&mut narrow[..size]);
 }
 
 fn put_cell(
@@ -169,6 +171,7 @@ fn copy(from: &[u8], to: &mut [u8])
 fn store(
     file: &[u8],
     flagged: bool,
+    mark: Mark,
     position: Position,
     next: Position,
     narrow: &mut [u32],
@@ -176,13 +179,12 @@ fn store(
     operations: &mut [u64],
     schedule: &mut [u8],
 )
-    requires { ⌜ Storable (layoutOf flagged) (now file) position next (lentCells flagged (now narrow) (now wide)) (now operations) (now schedule) ⌝ }
+    requires { ⌜ Storable (layoutOf flagged) (now file) mark position next (lentCells flagged (now narrow) (now wide)) (now operations) (now schedule) ⌝ }
     ensures { λ _. ⌜ stored (layoutOf flagged) (now (file .entry)) position (markAt (layoutOf flagged) (now (file .entry)) (position .at)) (record { cells = lentCells flagged (now (narrow .entry)) (now (wide .entry)); operations = now (operations .entry); schedule = now (schedule .entry) })
         ≡ record { cells = lentCells flagged (now (narrow .exit)) (now (wide .exit)); operations = now (operations .exit); schedule = now (schedule .exit) } ⌝ }
     ensures { λ _. ⌜ lentCells (not flagged) (now (narrow .exit)) (now (wide .exit)) ≡ lentCells (not flagged) (now (narrow .entry)) (now (wide .entry)) ⌝ }
 {
     let at = position.at;
-    let mark = mark_of(file, at, flagged);
     match mark {
         Mark::Table => {
             clear_cells(narrow, wide, flagged, next.size);
@@ -213,23 +215,20 @@ fn fill(
     wide: &mut [u64],
     operations: &mut [u64],
     schedule: &mut [u8],
-) -> Position
+) -> Loaded
     requires { ⌜ readerRefusal (layoutOf flagged) (now file) (length (lentCells flagged (now narrow) (now wide))) (length (now operations)) (length (now schedule)) .number ≡ 0 ⌝ }
     ensures { λ r. ⌜ acceptedReading (contents (layoutOf flagged) (now (file .entry))) (lentCells flagged (now (narrow .entry)) (now (wide .entry))) (now (operations .entry)) (now (schedule .entry))
-        ≡ record {
-          loaded = record { number = 0; place = 0; cells = r .size; operations = r .operations; entries = r .entries };
-          cells = lentCells flagged (now (narrow .exit)) (now (wide .exit));
-          operations = now (operations .exit);
-          schedule = now (schedule .exit);
-        } ⌝ }
-    ensures { λ r. ⌜ Counts (r .size) (lentCells flagged (now (narrow .exit)) (now (wide .exit))) × Counts (r .operations) (now (operations .exit)) × Counts (r .entries) (now (schedule .exit)) ⌝ }
+        ≡ record { loaded = r; cells = lentCells flagged (now (narrow .exit)) (now (wide .exit)); operations = now (operations .exit); schedule = now (schedule .exit) } ⌝ }
+    ensures { λ r. ⌜ Counts (r .cells) (lentCells flagged (now (narrow .exit)) (now (wide .exit))) × Counts (r .operations) (now (operations .exit)) × Counts (r .entries) (now (schedule .exit)) ⌝ }
 {
     let mut position = start();
     loop {
-        let next = past(file, flagged, position);
+        let mark = mark_of(file, position.at, flagged);
+        let next = past(file, flagged, mark, position);
         store(
             file,
             flagged,
+            mark,
             position,
             next,
             narrow,
@@ -239,7 +238,13 @@ fn fill(
         );
         position = next;
         if file.len() <= position.at {
-            return position;
+            return Loaded {
+                number: 0,
+                place: 0,
+                cells: position.size,
+                operations: position.operations,
+                entries: position.entries,
+            };
         }
     }
 }
@@ -255,14 +260,7 @@ pub fn load(file: &[u8], cells: &mut [u32], operations: &mut [u64], schedule: &m
     let refusal = refusal_of(file, false, cells.len(), operations.len(), schedule.len());
     if refusal.number == 0 {
         let mut wide = [0u64; 0];
-        let end = fill(file, false, cells, &mut wide, operations, schedule);
-        return Loaded {
-            number: 0,
-            place: 0,
-            cells: end.size,
-            operations: end.operations,
-            entries: end.entries,
-        };
+        return fill(file, false, cells, &mut wide, operations, schedule);
     }
     Loaded {
         number: refusal.number,

@@ -7,13 +7,10 @@ ghost use lib.ListN.{length};
 ghost use Rattle.semantics.specs.Refusals.{firstMet};
 ghost use Rattle.semantics.specs.Records.{faultAt, records, recordConditions};
 ghost use Rattle.semantics.specs.RunFile.{layoutOf, markAt, nextOf, start, runFile, judged, fileRefusal};
-use faults::cell_fault;
-use faults::operation_fault;
-use faults::schedule_fault;
-use faults::table_fault;
-use mark::mark_at;
-use mark::pair_at;
-use mark::total_size;
+use record::faults::fault_of;
+use record::fields::mark_at;
+use record::fields::pair_at;
+use record::fields::total_size;
 use semantics::Judged;
 use semantics::MOST_BYTES;
 use semantics::Mark;
@@ -34,30 +31,8 @@ pub fn start() -> Position
     }
 }
 
-// The number of the first condition that turns the record at a position away, 0 for none.
-fn fault_at(file: &[u8], flagged: bool, position: Position) -> u32
-    ensures { λ r. ⌜ r ≡ faultAt (runFile (layoutOf flagged)) (now (file .entry)) position ⌝ }
-{
-    let at = position.at;
-    if file.len() < at {
-        return 10;
-    }
-    let rest = &file[at..];
-    if rest.len() < 2 {
-        return 10;
-    }
-    let mark = mark_at(rest, 0, flagged);
-    match mark {
-        Mark::Table => table_fault(rest, flagged, position),
-        Mark::Cell => cell_fault(rest, flagged, position),
-        Mark::Operation => operation_fault(rest, flagged, position),
-        Mark::Schedule => schedule_fault(rest, flagged, position),
-        Mark::Unknown => 9,
-    }
-}
-
-// The mark of a record that is whole. What is read is lent at its known size, so that no offset is
-// tested again.
+// The mark of a record, where two bytes are left for it. Each pass finds it once by this and hands it on.
+// What is read is lent at its known size, so that no offset is tested again.
 pub(crate) fn mark_of(file: &[u8], at: usize, flagged: bool) -> Mark
     requires { ⌜ at + 2 ≤ length (now file) ⌝ }
     ensures { λ r. ⌜ r ≡ markAt (layoutOf flagged) (now (file .entry)) at ⌝ }
@@ -66,14 +41,14 @@ pub(crate) fn mark_of(file: &[u8], at: usize, flagged: bool) -> Mark
 }
 
 // The position past a record that is not turned away: a second pass over a file goes by it and judges
-// nothing again. The byte behind the mark is a TB record's k, and an SC record's count.
-pub(crate) fn past(file: &[u8], flagged: bool, position: Position) -> Position
-    requires { ⌜ faultAt (runFile (layoutOf flagged)) (now file) position ≡ 0 ⌝ }
+// nothing again. The mark is told, since both passes have found it. The byte behind the mark is a TB
+// record's k, and an SC record's count.
+pub(crate) fn past(file: &[u8], flagged: bool, mark: Mark, position: Position) -> Position
+    requires { ⌜ (faultAt (runFile (layoutOf flagged)) (now file) position ≡ 0) × (mark ≡ markAt (layoutOf flagged) (now file) (position .at)) ⌝ }
     ensures { λ r. ⌜ r ≡ nextOf (layoutOf flagged) (now (file .entry)) position ⌝ }
 {
     let mut next = position;
     let at = position.at;
-    let mark = mark_of(file, at, flagged);
     let first = file[at + 2] as usize;
     match mark {
         Mark::Table => {
@@ -105,9 +80,24 @@ pub(crate) fn past(file: &[u8], flagged: bool, position: Position) -> Position
 pub fn judge(file: &[u8], flagged: bool, position: Position) -> Judged
     ensures { λ r. ⌜ r ≡ judged (layoutOf flagged) (now (file .entry)) position ⌝ }
 {
-    let number = fault_at(file, flagged, position);
+    let at = position.at;
+    if file.len() < at {
+        return Judged {
+            number: 10,
+            next: position,
+        };
+    }
+    let rest = &file[at..];
+    if rest.len() < 2 {
+        return Judged {
+            number: 10,
+            next: position,
+        };
+    }
+    let mark = mark_of(file, at, flagged);
+    let number = fault_of(rest, flagged, mark, position);
     if number == 0 {
-        let next = past(file, flagged, position);
+        let next = past(file, flagged, mark, position);
         return Judged {
             number: 0,
             next: next,
@@ -126,10 +116,9 @@ fn first_fault(file: &[u8], flagged: bool) -> Refusal
     let mut position = start();
     loop {
         let judged = judge(file, flagged, position);
-        let number = judged.number;
-        if number != 0 {
+        if judged.number != 0 {
             return Refusal {
-                number: number,
+                number: judged.number,
                 place: position.at,
             };
         }

@@ -8,6 +8,13 @@ use borrow.Author.Needs.{needs}
 use Rattle.runfile.proofs.cell_at.Statement.{statement}
 use Rattle.runfile.proofs.cell_at.Tie as tie
 
+-- the contexts that the facts look back to
+abbrev start : tie.After-pair-at → tie.Start
+start c = c .before .before .before
+
+abbrev after-pair-at : tie.After-cell-word → tie.After-pair-at
+after-pair-at c = c .before .before
+
 add-record : tie.Need-add-record
 add-record c = search needs
 
@@ -31,9 +38,9 @@ cell-word-requires c κs = search needs
 
 returns : tie.Need-returns
 returns c =
-    let same = part-agrees 8 (c .before .before .before .before .before .args .file .now) (c .before .before .before .before .before .args .at) in
+    let same = part-agrees 8 (start (after-pair-at c) .args .file .now) (start (after-pair-at c) .args .at) in
     c .cell-word .ensures
-    ∙ ap₂ (λ a b. a * 65536 + b) (c .before .before .pair-at .ensures ∙ pair-agrees same 4 (omega arith)) (c .before .pair-at2 .ensures ∙ pair-agrees same 6 (omega arith))
+    ∙ ap₂ (λ a b. a * 65536 + b) (after-pair-at c .pair-at .ensures ∙ pair-agrees same 4 (omega arith)) (c .before .pair-at2 .ensures ∙ pair-agrees same 6 (omega arith))
 
 pub cell-at-spec : {M : Type 1} → statement M
 cell-at-spec =

@@ -1,92 +1,85 @@
 -- `runfile::clear_cells` meets its contract: of the two slices it alters the one of the width.
 -- Assumes nothing.
-use mathlib.Core.Path.{_≡_, refl, sym, ap, subst, _∙_}
-use Prim.Native.Nat.{ℕ, _≤_}
-use mathlib.Core.Bool.{Bool, true, false}
-use mathlib.Core.List.{List, _++_}
+use mathlib.Core.Path.{_≡_}
+use Prim.Native.Nat.{_-_, _≤_, _<_}
+use mathlib.Core.Bool.{Bool}
+use mathlib.Core.Logic.{⊎-elim}
 use native.Mathlib.Omega.{arith}
-use lib.ListN.{length, drop, replicate, length-replicate}
-use lib.Seq.{length-take-le}
-use Rattle.semantics.specs.Run.{over}
-use Rattle.semantics.proofs.Over.{over-zeros, over-length}
-use Rattle.runfile.specs.Stored.{lentCells, Rewritten}
+use lib.ListN.{length}
+use Rattle.runfile.specs.Stored.{lentCells}
+use Rattle.runfile.proofs.Zeros.{Cleared, cleared-starts, cleared-long, next-inside, cleared-again, cleared-ends}
 use borrow.Author.Needs.{needs}
 use Rattle.runfile.proofs.clear_cells.Statement.{statement}
 use Rattle.runfile.proofs.clear_cells.Tie as tie
 
--- the slice of the width is long enough, once it is known which it is
-fits : (s : tie.Start) {w : Bool} → s .args .flagged ≡ w → s .args .size ≤ length (lentCells w (s .args .narrow .now) (s .args .wide .now))
-fits s e = subst (λ w. s .args .size ≤ length (lentCells w (s .args .narrow .now) (s .args .wide .now))) e (s .pre)
+abbrev Inv-loop : tie.InvT-loop
+Inv-loop narrow₀ wide₀ flagged size i₀ narrow wide i = Cleared flagged narrow₀ wide₀ narrow wide i × (i ≤ size)
 
-known : (s : tie.Start) {w : Bool} → s .args .flagged ≡ w → {narrow wide : List ℕ}
-    → let a = s .args in
-    Rewritten w (a .narrow .now) (a .wide .now) narrow wide (over (replicate (a .size) 0) (lentCells w (a .narrow .now) (a .wide .now)))
-    → Rewritten (a .flagged) (a .narrow .now) (a .wide .now) narrow wide (over (replicate (a .size) 0) (lentCells (a .flagged) (a .narrow .now) (a .wide .now)))
-known s e {narrow} {wide} r =
-    let a = s .args in
-    subst (λ w. Rewritten w (a .narrow .now) (a .wide .now) narrow wide (over (replicate (a .size) 0) (lentCells w (a .narrow .now) (a .wide .now)))) (sym e) r
+abbrev μ-loop : tie.MeasureT-loop
+μ-loop narrow₀ wide₀ flagged size i₀ narrow wide i = size - i
 
-long : (n : ℕ) (old : List ℕ) {new : List ℕ} → n ≤ length old → new ≡ over (replicate n 0) old → length new ≡ length old
-long n old h e = ap length e ∙ over-length (replicate n 0) old (omega (arith, length-replicate {A = ℕ} n 0))
+-- a turn of the loop, and the next cell in it, once it is known which width is read
+abbrev start : tie.In-loop Inv-loop μ-loop → tie.Start Inv-loop μ-loop
+start c = c .before .before
 
--- what each slice holds, if it is the one
-wide-zeros : (c : tie.After-clear-wide)
-    → let a = c .before .before .before .before .before .args in c .clear-wide .last .0 ++ drop (a .size) (a .wide .now) ≡ over (replicate (a .size) 0) (a .wide .now)
-wide-zeros c = let s = c .before .before .before .before .before in
-    over-zeros (s .args .size) (s .args .wide .now) (fits s (c .before .before .if1 .taken)) (c .clear-wide .ensures)
+abbrev wide-turn : tie.Then1 Inv-loop μ-loop → tie.At-loop Inv-loop μ-loop
+wide-turn c = c .before .before
 
-narrow-zeros : (c : tie.After-clear)
-    → let a = c .before .before .before .before .before .args in c .clear .last .0 ++ drop (a .size) (a .narrow .now) ≡ over (replicate (a .size) 0) (a .narrow .now)
-narrow-zeros c = let s = c .before .before .before .before .before in
-    over-zeros (s .args .size) (s .args .narrow .now) (fits s (c .before .before .if1 .left)) (c .clear .ensures)
+abbrev narrow-turn : tie.Else1 Inv-loop μ-loop → tie.At-loop Inv-loop μ-loop
+narrow-turn c = c .before .before
 
-slice-relend-prefix-clear-wide : tie.Need-slice-relend-prefix-clear-wide
-slice-relend-prefix-clear-wide c = fits (c .before .before .before) (c .if1 .taken)
+abbrev entered : tie.After-loop Inv-loop μ-loop → tie.Start Inv-loop μ-loop
+entered c = c .before .before
 
-slice-aggregate-clear-wide : tie.Need-slice-aggregate-clear-wide
-slice-aggregate-clear-wide c = let s = c .before .before .before .before in
-    sym (length-take-le (s .args .size) (s .args .wide .now) (fits s (c .before .if1 .taken)))
+inside : (c : tie.In-loop Inv-loop μ-loop) {w : Bool} → start c .args .flagged ≡ w
+    → let at = c .before .loop in at .i < length (lentCells w (at .narrow) (at .wide))
+inside c e = next-inside (c .before .loop .inv .0) (start c .pre) (c .loop-test .taken) e
 
-clear-wide-requires : tie.Need-clear-wide-requires
-clear-wide-requires c κs = search needs
+in-wide : (c : tie.Then1 Inv-loop μ-loop) → let at = wide-turn c .loop in at .i < length (at .wide)
+in-wide c = inside (c .before) (c .if1 .taken)
 
-same-length : tie.Need-same-length
-same-length c = let s = c .before .before .before .before .before .before .before in
-    long (s .args .size) (s .args .wide .now) (fits s (c .before .before .before .before .if1 .taken)) (wide-zeros (c .before .before))
+in-narrow : (c : tie.Else1 Inv-loop μ-loop) → let at = narrow-turn c .loop in at .i < length (at .narrow)
+in-narrow c = inside (c .before) (c .if1 .left)
 
-returns : tie.Need-returns
-returns c = let t = c .before .before .before .before in
-    known (t .before .before .before) (t .if1 .taken) (record { is = wide-zeros (c .before .before); other = refl })
+loop-holds : tie.Need-loop-holds Inv-loop μ-loop
+loop-holds c = (cleared-starts _ _ _, omega arith)
 
-slice-relend-prefix-clear : tie.Need-slice-relend-prefix-clear
-slice-relend-prefix-clear c = fits (c .before .before .before) (c .if1 .left)
+mul-wide : tie.Need-mul-wide Inv-loop μ-loop
+mul-wide c = record { fits = omega (arith, in-wide c, cleared-long (wide-turn c .loop .inv .0) .1, start (c .before) .good .1 .0 .1) }
 
-slice-aggregate-clear : tie.Need-slice-aggregate-clear
-slice-aggregate-clear c = let s = c .before .before .before .before in
-    sym (length-take-le (s .args .size) (s .args .narrow .now) (fits s (c .before .if1 .left)))
+slice-write-wide : tie.Need-slice-write-wide Inv-loop μ-loop
+slice-write-wide c = omega (arith, in-wide c)
 
-clear-requires : tie.Need-clear-requires
-clear-requires c κs = search needs
+mul-narrow : tie.Need-mul-narrow Inv-loop μ-loop
+mul-narrow c = record { fits = omega (arith, in-narrow c, cleared-long (narrow-turn c .loop .inv .0) .0, start (c .before) .good .0 .1) }
 
-same-length-2 : tie.Need-same-length-2
-same-length-2 c = let s = c .before .before .before .before .before .before .before in
-    long (s .args .size) (s .args .narrow .now) (fits s (c .before .before .before .before .if1 .left)) (narrow-zeros (c .before .before))
+slice-write-narrow : tie.Need-slice-write-narrow Inv-loop μ-loop
+slice-write-narrow c = omega (arith, in-narrow c)
 
-returns-2 : tie.Need-returns-2
-returns-2 c = let t = c .before .before .before .before in
-    known (t .before .before .before) (t .if1 .left) (record { is = narrow-zeros (c .before .before); other = refl })
+add-i : tie.Need-add-i Inv-loop μ-loop
+add-i c = search needs
+
+loop-less : tie.Need-loop-less Inv-loop μ-loop
+loop-less c = omega (arith, c .before .loop-test .taken)
+
+loop-again : tie.Need-loop-again Inv-loop μ-loop
+loop-again c = let t = c .before in
+    let h = t .before .loop .inv .0 in (
+      ⊎-elim (λ w. cleared-again h (start t .pre) (t .loop-test .taken) (w .0 .taken) (record { is = w .2; other = w .1 }))
+          (λ w. cleared-again h (start t .pre) (t .loop-test .taken) (w .0 .left) (record { is = w .1; other = w .2 })) (c .if1 .came),
+      omega (arith, t .loop-test .taken),
+    )
+
+same-length : tie.Need-same-length Inv-loop μ-loop
+same-length c = cleared-long (c .before .loop .inv .0) .0
+
+same-length-2 : tie.Need-same-length-2 Inv-loop μ-loop
+same-length-2 c = cleared-long (c .before .loop .inv .0) .1
+
+returns : tie.Need-returns Inv-loop μ-loop
+returns c = cleared-ends (c .before .loop .inv .0) {size = entered c .args .size} (omega (arith, c .loop-test .left, c .before .loop .inv .1))
 
 pub clear-cells-spec : {M : Type 1} → statement M
 clear-cells-spec =
     tie.close
-    (tie.spec
-    slice-relend-prefix-clear-wide
-    slice-aggregate-clear-wide
-    clear-wide-requires
-    same-length
-    returns
-    slice-relend-prefix-clear
-    slice-aggregate-clear
-    clear-requires
-    same-length-2
-    returns-2)
+    (tie.spec Inv-loop μ-loop loop-holds mul-wide slice-write-wide mul-narrow slice-write-narrow add-i loop-less loop-again same-length same-length-2 returns)

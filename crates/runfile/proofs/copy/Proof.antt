@@ -18,6 +18,13 @@ Inv-loop from to₀ i₀ to i = (i ≤ length from) × (to ≡ over (map (λ b. 
 abbrev μ-loop : tie.MeasureT-loop
 μ-loop from to₀ i₀ to i = length from - i
 
+-- the contexts that the facts look back to
+abbrev start : tie.After-loop Inv-loop μ-loop → tie.Start Inv-loop μ-loop
+start c = c .before .before
+
+abbrev at-loop : tie.After-shared-slice-known Inv-loop μ-loop → tie.At-loop Inv-loop μ-loop
+at-loop c = c .before .before
+
 long : (c : tie.At-loop Inv-loop μ-loop) → length (c .loop .to) ≡ length (c .before .args .to .now)
 long c =
     let written = take (c .loop .i) (c .before .args .from .now) in
@@ -32,7 +39,7 @@ shared-slice-read-to : tie.Need-shared-slice-read-to Inv-loop μ-loop
 shared-slice-read-to c = search needs
 
 slice-write-to : tie.Need-slice-write-to Inv-loop μ-loop
-slice-write-to c = omega (arith, c .before .loop-test .taken, long (c .before .before), c .before .before .before .pre)
+slice-write-to c = omega (arith, c .before .loop-test .taken, long (at-loop c), at-loop c .before .pre)
 
 add-i : tie.Need-add-i Inv-loop μ-loop
 add-i c = search needs
@@ -53,9 +60,9 @@ same-length : tie.Need-same-length Inv-loop μ-loop
 same-length c = long (c .before)
 
 returns : tie.Need-returns Inv-loop μ-loop
-returns c = let from = c .before .before .args .from .now in
+returns c = let from = start c .args .from .now in
     c .before .loop .inv .1
-    ∙ ap (λ l. over l (c .before .before .args .to .now)) (map-id (take (c .before .loop .i) from) ∙ take-all (c .before .loop .i) from (c .loop-test .left))
+    ∙ ap (λ l. over l (start c .args .to .now)) (map-id (take (c .before .loop .i) from) ∙ take-all (c .before .loop .i) from (c .loop-test .left))
 
 pub copy-spec : {M : Type 1} → statement M
 copy-spec = tie.close (tie.spec Inv-loop μ-loop loop-holds shared-slice-read-to slice-write-to add-i loop-less loop-again same-length returns)

@@ -12,7 +12,7 @@ use Rattle.semantics.proofs.Records.{judgement}
 use Rattle.runfile.specs.Stored.{lentCells}
 use Rattle.runfile.proofs.Refused.{slices-fit, records-accepted}
 use Rattle.runfile.proofs.Stores.{both-long}
-use Rattle.runfile.proofs.Filled.{Room, Holds, Filling, filling-starts, filling-sound, filling-less, holds-long, holds-counted, turned, filling-again, filling-ends}
+use Rattle.runfile.proofs.Filled.{Room, Holds, Filling, filling-starts, filling-sound, filling-marked, filling-less, holds-long, holds-counted, turned, filling-again, filling-ends}
 use borrow.Author.Needs.{needs}
 use Rattle.runfile.proofs.fill.Statement.{statement}
 use Rattle.runfile.proofs.fill.Tie as tie
@@ -28,8 +28,11 @@ abbrev μ-loop : tie.MeasureT-loop
     length file - position .at
 
 -- the start of the function, what was lent, and that the file is accepted
+abbrev entered : tie.After-start Inv-loop μ-loop → tie.Start Inv-loop μ-loop
+entered c = c .before .before .before .before .before .before
+
 abbrev begun : tie.At-loop Inv-loop μ-loop → tie.Start Inv-loop μ-loop
-begun c = c .before .before .before .before .before .before .before
+begun c = entered (c .before)
 
 abbrev layout : tie.Start Inv-loop μ-loop → Layout
 layout c = layoutOf (c .args .flagged)
@@ -50,27 +53,33 @@ accepted : (c : tie.Start Inv-loop μ-loop)
 accepted c = records-accepted (layout c) (c .args .file .now) _ _ _ (c .pre)
 
 -- a turn: the position past its record, and what the slices hold after the store
+abbrev lending : tie.After-store-arg4 Inv-loop μ-loop → tie.After-past Inv-loop μ-loop
+lending c = c .before .before .before .before
+
 abbrev past-of : tie.After-store Inv-loop μ-loop → tie.After-past Inv-loop μ-loop
-past-of c = c .before .before .before .before .before
+past-of c = lending (c .before)
+
+abbrev marked : tie.After-past Inv-loop μ-loop → tie.At-loop Inv-loop μ-loop
+marked c = c .before .before
 
 abbrev turn : tie.After-store Inv-loop μ-loop → tie.At-loop Inv-loop μ-loop
-turn c = past-of c .before
+turn c = marked (past-of c)
 
 abbrev stored-of : tie.After-struct-known Inv-loop μ-loop → tie.After-store Inv-loop μ-loop
 stored-of c = c .before .before .before .before .before .before .before .before .before
 
 abbrev narrow : tie.After-store Inv-loop μ-loop → List ℕ
-narrow c = c .store .last .1 .1 .1 .1 .0
+narrow c = c .store .last .1 .1 .1 .1 .1 .0
 
 abbrev wide : tie.After-store Inv-loop μ-loop → List ℕ
-wide c = c .store .last .1 .1 .1 .1 .1 .0
+wide c = c .store .last .1 .1 .1 .1 .1 .1 .0
 
 abbrev left : tie.After-store Inv-loop μ-loop → Contents
 left c =
     record {
       cells = lentCells (begun (turn c) .args .flagged) (narrow c) (wide c);
-      operations = c .store .last .1 .1 .1 .1 .1 .1 .0;
-      schedule = c .store .last .1 .1 .1 .1 .1 .1 .1 .0;
+      operations = c .store .last .1 .1 .1 .1 .1 .1 .1 .0;
+      schedule = c .store .last .1 .1 .1 .1 .1 .1 .1 .1 .0;
     }
 
 stores : (c : tie.After-store Inv-loop μ-loop)
@@ -95,20 +104,24 @@ start-requires : tie.Need-start-requires Inv-loop μ-loop
 start-requires c κs = search needs
 
 loop-holds : tie.Need-loop-holds Inv-loop μ-loop
-loop-holds c = let s = c .before .before .before .before .before .before in
+loop-holds c = let s = entered c in
     (filling-starts (layout s) (s .args .file .now) (lent s) (c .start .ensures), refl)
 
+mark-of-requires : tie.Need-mark-of-requires Inv-loop μ-loop
+mark-of-requires c κs = filling-marked (c .loop .inv .0) (accepted (begun c))
+
 past-requires : tie.Need-past-requires Inv-loop μ-loop
-past-requires c κs = filling-sound (c .loop .inv .0) (accepted (begun c))
+past-requires c κs = let t = c .before in (filling-sound (t .loop .inv .0) (accepted (begun t)), c .mark-of .ensures)
 
 store-requires : tie.Need-store-requires Inv-loop μ-loop
 store-requires c κs =
-    let past = c .before .before .before .before in
-    let t = past .before in
+    let past = lending c in
+    let t = marked past in
     let fits = room (begun t) in
     let holds = t .loop .inv .0 .holds in
     let long = holds-long fits holds in
     record {
+      mark = past .before .mark-of .ensures;
       sound = filling-sound (t .loop .inv .0) (accepted (begun t));
       past = past .past .ensures;
       size = holds .small .cells;
@@ -156,6 +169,7 @@ fill-spec =
     μ-loop
     start-requires
     loop-holds
+    mark-of-requires
     past-requires
     store-requires
     same-length

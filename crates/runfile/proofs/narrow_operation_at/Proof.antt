@@ -8,6 +8,13 @@ use borrow.Author.Needs.{needs}
 use Rattle.runfile.proofs.narrow_operation_at.Statement.{statement}
 use Rattle.runfile.proofs.narrow_operation_at.Tie as tie
 
+-- the contexts that the facts look back to
+abbrev start : tie.After-byte-at → tie.Start
+start c = c .before .before .before
+
+abbrev after-pair-at : tie.After-operation-word → tie.After-pair-at
+after-pair-at c = c .before .before
+
 add-record : tie.Need-add-record
 add-record c = search needs
 
@@ -34,10 +41,10 @@ operation-word-requires c κs = search needs
 
 returns : tie.Need-returns
 returns c =
-    let a = c .before .before .before .before .before .before .args in
+    let a = start (after-pair-at c .before) .args in
     let same = part-agrees 7 (a .file .now) (a .at) in
-    let kind = c .before .before .before .byte-at .ensures ∙ same .byte 2 (omega arith) in
-    let key = c .before .before .pair-at .ensures ∙ pair-agrees same 3 (omega arith) in
+    let kind = after-pair-at c .before .byte-at .ensures ∙ same .byte 2 (omega arith) in
+    let key = after-pair-at c .pair-at .ensures ∙ pair-agrees same 3 (omega arith) in
     let amount = c .before .pair-at2 .ensures ∙ pair-agrees same 5 (omega arith) in
     c .operation-word .ensures ∙ (λ i. kind i * 2 ^ 32 + key i * 65536 + amount i)
 

@@ -12,6 +12,13 @@ use borrow.Author.Needs.{needs}
 use Rattle.runfile.proofs.put_cell.Statement.{statement}
 use Rattle.runfile.proofs.put_cell.Tie as tie
 
+-- the contexts that the facts look back to
+abbrev after-slice-known2-of-cell-at : tie.After-cell-at → tie.After-slice-known2
+after-slice-known2-of-cell-at c = c .before .before
+
+abbrev after-slice-known2-of-wide-cell-at : tie.After-wide-cell-at → tie.After-slice-known2
+after-slice-known2-of-wide-cell-at c = c .before .before
+
 -- the start of the function, and what it asks once it is known which width is read
 abbrev start : tie.After-slice-known2 → tie.Start
 start c = c .before .before .before
@@ -37,32 +44,32 @@ wide-cell-at-requires : tie.Need-wide-cell-at-requires
 wide-cell-at-requires c κs = whole (start (c .before)) (c .if1 .taken)
 
 mul-wide : tie.Need-mul-wide
-mul-wide c = record { fits = omega (arith, inside (start (c .before .before)) (c .before .if1 .taken)) }
+mul-wide c = record { fits = omega (arith, inside (start (after-slice-known2-of-wide-cell-at c)) (c .before .if1 .taken)) }
 
 slice-write-wide : tie.Need-slice-write-wide
-slice-write-wide c = inside (start (c .before .before)) (c .before .if1 .taken)
+slice-write-wide c = inside (start (after-slice-known2-of-wide-cell-at c)) (c .before .if1 .taken)
 
 same-length : tie.Need-same-length
 same-length c = search needs
 
 returns : tie.Need-returns
-returns c = let s = start (c .before .before) in
+returns c = let s = start (after-slice-known2-of-wide-cell-at c) in
     known s (c .before .if1 .taken) (record { is = ap (set (s .args .wide .now) (s .args .cell)) (c .wide-cell-at .ensures); other = refl })
 
 cell-at-requires : tie.Need-cell-at-requires
 cell-at-requires c κs = whole (start (c .before)) (c .if1 .left)
 
 mul-narrow : tie.Need-mul-narrow
-mul-narrow c = record { fits = omega (arith, inside (start (c .before .before)) (c .before .if1 .left)) }
+mul-narrow c = record { fits = omega (arith, inside (start (after-slice-known2-of-cell-at c)) (c .before .if1 .left)) }
 
 slice-write-narrow : tie.Need-slice-write-narrow
-slice-write-narrow c = inside (start (c .before .before)) (c .before .if1 .left)
+slice-write-narrow c = inside (start (after-slice-known2-of-cell-at c)) (c .before .if1 .left)
 
 same-length-2 : tie.Need-same-length-2
 same-length-2 c = search needs
 
 returns-2 : tie.Need-returns-2
-returns-2 c = let s = start (c .before .before) in
+returns-2 c = let s = start (after-slice-known2-of-cell-at c) in
     known s (c .before .if1 .left) (record { is = ap (set (s .args .narrow .now) (s .args .cell)) (c .cell-at .ensures); other = refl })
 
 pub put-cell-spec : {M : Type 1} → statement M

@@ -1,11 +1,15 @@
 -- `runfile::total_of` meets its contract.
 -- Assumes nothing.
-use mathlib.Core.Path.{_∙_, ap}
+use mathlib.Core.Path.{_∙_}
 use Prim.Native.Nat.{_+_, _*_}
 use lib.Dec.{eqb}
 use borrow.Author.Needs.{needs}
 use Rattle.runfile.proofs.total_of.Statement.{statement}
 use Rattle.runfile.proofs.total_of.Tie as tie
+
+-- the contexts that the facts look back to
+abbrev after-pair-at2 : tie.After-byte-at → tie.After-pair-at2
+after-pair-at2 c = c .before .before
 
 pair-at-requires : tie.Need-pair-at-requires
 pair-at-requires c κs = search needs
@@ -21,8 +25,8 @@ byte-at-requires c κs = search needs
 
 returns : tie.Need-returns
 returns c =
-    let high = c .before .before .before .pair-at .ensures in
-    let low = c .before .before .pair-at2 .ensures in
+    let high = after-pair-at2 c .before .pair-at .ensures in
+    let low = after-pair-at2 c .pair-at2 .ensures in
     let amount = c .before .cell-word .ensures ∙ (λ i. high i * 65536 + low i) in
     let flag = c .byte-at .ensures in
     λ i. record { amount = amount i; saturated = eqb (flag i) 1 }

@@ -8,6 +8,13 @@ use borrow.Author.Needs.{needs}
 use Rattle.runfile.proofs.wide_cell_at.Statement.{statement}
 use Rattle.runfile.proofs.wide_cell_at.Tie as tie
 
+-- the contexts that the facts look back to
+abbrev start : tie.After-pair-at → tie.Start
+start c = c .before .before .before
+
+abbrev after-pair-at : tie.After-wide-cell-word → tie.After-pair-at
+after-pair-at c = c .before .before .before
+
 add-record : tie.Need-add-record
 add-record c = search needs
 
@@ -40,11 +47,11 @@ wide-cell-word-requires c κs = search needs
 
 returns : tie.Need-returns
 returns c =
-    let a = c .before .before .before .before .before .before .args in
+    let a = start (after-pair-at c) .args in
     let same = part-agrees 11 (a .file .now) (a .at) in
     let total = flagged-agrees (inner-agrees same 5 6 (omega arith)) in
     c .wide-cell-word .ensures
-    ∙ ap₂ wideCellWord (c .before .before .before .pair-at .ensures ∙ pair-agrees same 4 (omega arith)) (c .before .total-of .ensures ∙ total)
+    ∙ ap₂ wideCellWord (after-pair-at c .pair-at .ensures ∙ pair-agrees same 4 (omega arith)) (c .before .total-of .ensures ∙ total)
 
 pub wide-cell-at-spec : {M : Type 1} → statement M
 wide-cell-at-spec =

@@ -8,6 +8,13 @@ use borrow.Author.Needs.{needs}
 use Rattle.runfile.proofs.wide_operation_at.Statement.{statement}
 use Rattle.runfile.proofs.wide_operation_at.Tie as tie
 
+-- the contexts that the facts look back to
+abbrev start : tie.After-byte-at → tie.Start
+start c = c .before .before .before
+
+abbrev after-pair-at : tie.After-wide-operation-word → tie.After-pair-at
+after-pair-at c = c .before .before .before
+
 add-record : tie.Need-add-record
 add-record c = search needs
 
@@ -43,10 +50,10 @@ wide-operation-word-requires c κs = search needs
 
 returns : tie.Need-returns
 returns c =
-    let a = c .before .before .before .before .before .before .before .args in
+    let a = start (after-pair-at c .before) .args in
     let same = part-agrees 10 (a .file .now) (a .at) in
-    let kind = c .before .before .before .before .byte-at .ensures ∙ same .byte 2 (omega arith) in
-    let key = c .before .before .before .pair-at .ensures ∙ pair-agrees same 3 (omega arith) in
+    let kind = after-pair-at c .before .byte-at .ensures ∙ same .byte 2 (omega arith) in
+    let key = after-pair-at c .pair-at .ensures ∙ pair-agrees same 3 (omega arith) in
     let amount = c .before .total-of .ensures ∙ flagged-agrees (inner-agrees same 5 5 (omega arith)) in
     c .wide-operation-word .ensures ∙ (λ i. wideOperationWord (kind i) (key i) (amount i))
 

@@ -3,7 +3,6 @@
 use mathlib.Core.Path.{_≡_, sym, _∙_}
 use Prim.Native.Nat.{_-_}
 use lib.ListN.{length}
-use Rattle.semantics.specs.declared.Position.{Position}
 use Rattle.semantics.specs.Records.{faultAt, records}
 use Rattle.semantics.specs.RunFile.{Layout, layoutOf, start, runFile, nextOf}
 use Rattle.semantics.proofs.Records.{Left, judgement, scan-starts, scan-less, judge-goes-on, judge-faulty, judge-ends}
@@ -21,31 +20,40 @@ abbrev μ-loop : tie.MeasureT-loop
 μ-loop file flagged position₀ position = length file - position .at
 
 -- the start of the function and the turn of the loop, as a judged record sees them
+abbrev entered : tie.After-start Inv-loop μ-loop → tie.Start Inv-loop μ-loop
+entered c = c .before .before
+
 abbrev begun : tie.At-loop Inv-loop μ-loop → tie.Start Inv-loop μ-loop
-begun c = c .before .before .before
+begun c = entered (c .before)
 
 abbrev layout : tie.At-loop Inv-loop μ-loop → Layout
 layout c = layoutOf (begun c .args .flagged)
 
-abbrev turn : tie.Else1 Inv-loop μ-loop → tie.At-loop Inv-loop μ-loop
-turn c = c .before .before
+abbrev judged-at : tie.Else1 Inv-loop μ-loop → tie.After-judge Inv-loop μ-loop
+judged-at c = c .before .before
 
-abbrev went-on : tie.After-struct-known Inv-loop μ-loop → tie.Else1 Inv-loop μ-loop
+abbrev faulty-at : tie.Then1 Inv-loop μ-loop → tie.After-judge Inv-loop μ-loop
+faulty-at c = c .before .before
+
+abbrev turn : tie.Else1 Inv-loop μ-loop → tie.At-loop Inv-loop μ-loop
+turn c = judged-at c .before
+
+abbrev went-on : tie.After-struct-known2 Inv-loop μ-loop → tie.Else1 Inv-loop μ-loop
 went-on c = c .before .before
 
 -- the record at the loop's position is not turned away, and the position past it
 passed : (c : tie.Else1 Inv-loop μ-loop) → let t = turn c in faultAt (runFile (layout t)) (begun t .args .file .now) (t .loop .position) ≡ 0
-passed c = let t = turn c in sym (number-said (layout t) (begun t .args .file .now) (t .loop .position) (c .before .judge .ensures)) ∙ c .if1 .left
+passed c = let t = turn c in sym (number-said (layout t) (begun t .args .file .now) (t .loop .position) (judged-at c .judge .ensures)) ∙ c .if1 .left
 
 onto : (c : tie.Else1 Inv-loop μ-loop)
-    → let t = turn c in c .before .judge .result .next ≡ nextOf (layout t) (begun t .args .file .now) (t .loop .position)
-onto c = let t = turn c in next-said (layout t) (begun t .args .file .now) (t .loop .position) (c .before .judge .ensures) (c .if1 .left)
+    → let t = turn c in judged-at c .judge .result .next ≡ nextOf (layout t) (begun t .args .file .now) (t .loop .position)
+onto c = let t = turn c in next-said (layout t) (begun t .args .file .now) (t .loop .position) (judged-at c .judge .ensures) (c .if1 .left)
 
 start-requires : tie.Need-start-requires Inv-loop μ-loop
 start-requires c κs = search needs
 
 loop-holds : tie.Need-loop-holds Inv-loop μ-loop
-loop-holds c = let a = c .before .before .args in
+loop-holds c = let a = entered c .args in
     let L = layoutOf (a .flagged) in
     scan-starts (runFile L) (a .file .now) (judgement (runFile L) (a .file .now)) start (c .start .ensures)
 
@@ -53,9 +61,10 @@ judge-requires : tie.Need-judge-requires Inv-loop μ-loop
 judge-requires c κs = search needs
 
 returns : tie.Need-returns Inv-loop μ-loop
-returns c = let t = c .before .before in
+returns c = let j = faulty-at c in
+    let t = j .before in
     judge-faulty (scannable (layout t) (begun t .args .file .now)) (t .loop .inv)
-    (number-said (layout t) (begun t .args .file .now) (t .loop .position) (c .before .judge .ensures)) (c .if1 .taken)
+    (number-said (layout t) (begun t .args .file .now) (t .loop .position) (j .judge .ensures)) (c .if1 .taken)
 
 returns-2 : tie.Need-returns-2 Inv-loop μ-loop
 returns-2 c = let e = went-on (c .before) in

@@ -8,6 +8,10 @@ use borrow.Author.Needs.{needs}
 use Rattle.runfile.proofs.scan.mark_of.Statement.{statement}
 use Rattle.runfile.proofs.scan.mark_of.Tie as tie
 
+-- the contexts that the facts look back to
+abbrev start : tie.After-mark-at → tie.Start
+start c = c .before .before .before
+
 add-mark-at : tie.Need-add-mark-at
 add-mark-at c = search needs
 
@@ -24,7 +28,7 @@ mark-at-requires : tie.Need-mark-at-requires
 mark-at-requires c κs = search needs
 
 returns : tie.Need-returns
-returns c = let a = c .before .before .before .args in
+returns c = let a = start c .args in
     c .mark-at .ensures ∙ mark-agrees (part-agrees 2 (a .file .now) (a .at)) (omega arith) (layoutOf (a .flagged))
 
 pub mark-of-spec : {M : Type 1} → statement M

@@ -1,12 +1,12 @@
 -- `runfile::scan::past` meets its contract: what no condition turns away is whole, and what is counted fits.
 -- Assumes nothing.
-use mathlib.Core.Path.{_≡_, refl, _∙_}
+use mathlib.Core.Path.{_∙_}
 use Prim.Native.Nat.{_+_, _≤_}
 use native.Mathlib.Omega.{arith}
 use lib.ListN.{length}
 use Rattle.semantics.specs.declared.Mark.{Mark}
-use Rattle.semantics.specs.declared.Mark.the-variants.{Table, Cell, Operation, Schedule}
-use Rattle.semantics.specs.RunFile.{Layout, layoutOf, byteAt, sizeOf}
+use Rattle.semantics.specs.declared.Mark.the-variants.{Cell, Operation, Schedule}
+use Rattle.semantics.specs.RunFile.{Layout, layoutOf, sizeOf}
 use Rattle.semantics.proofs.Parts.{total-bytes, part-agrees, pair-agrees}
 use Rattle.runfile.proofs.Judged.{Sound, sound, within, is-known, whole-of, exponent, few, short}
 use Rattle.runfile.proofs.Onward.{past-table, past-cell, past-operation, past-schedule}
@@ -14,59 +14,66 @@ use borrow.Author.Needs.{needs}
 use Rattle.runfile.proofs.scan.past.Statement.{statement}
 use Rattle.runfile.proofs.scan.past.Tie as tie
 
--- the start of the function, and the record that no condition turns away
-abbrev start : tie.After-mark-of → tie.Start
-start c = c .before .before
-
+-- the record that no condition turns away
 abbrev layout : tie.Start → Layout
-layout c = layoutOf (c .args .flagged)
+layout s = layoutOf (s .args .flagged)
 
-ok : (c : tie.After-mark-of) → let s = start c in Sound (layout s) (s .args .file .now) (s .args .position) (c .mark-of .result)
-ok c = let s = start c in sound (layout s) (s .args .file .now) (s .args .position) (c .mark-of .ensures) (s .pre)
+ok : (s : tie.Start) → Sound (layout s) (s .args .file .now) (s .args .position) (s .args .mark)
+ok s = sound (layout s) (s .args .file .now) (s .args .position) (s .pre .1) (s .pre .0)
 
--- its mark, as each arm of the match sees it
-abbrev table : tie.After-enum-told → tie.After-mark-of
-table c = c .before .before .before
+-- the start of the function, as the byte behind the mark and each arm of the match see it
+abbrev read : tie.After-shared-slice-known2 → tie.Start
+read c = c .before .before
 
-abbrev cell : tie.After-enum-told2 → tie.After-mark-of
-cell c = c .before .before .before
+abbrev table : tie.After-enum-told → tie.Start
+table c = read (c .before .before)
 
-abbrev operation : tie.After-enum-told3 → tie.After-mark-of
-operation c = c .before .before .before
+abbrev cell : tie.After-enum-told2 → tie.Start
+cell c = read (c .before .before)
 
-abbrev schedule : tie.After-enum-told4 → tie.After-mark-of
-schedule c = c .before .before .before
+abbrev operation : tie.After-enum-told3 → tie.Start
+operation c = read (c .before .before)
+
+abbrev schedule : tie.After-enum-told4 → tie.Start
+schedule c = read (c .before .before)
+
+abbrev unknown : tie.After-enum-told5 → tie.Start
+unknown c = read (c .before .before)
+
+-- where a cell's number is read, and an operation counted
+abbrev sized : tie.After-pair-at → tie.After-total-size
+sized c = c .before .before
+
+abbrev counted : tie.After-struct-known → tie.After-enum-told3
+counted c = c .before .before
 
 -- so it ends within the file
 abbrev Ends : Mark → tie.Start → Type 0
 Ends m s = s .args .position .at + sizeOf (layout s) (s .args .file .now) (s .args .position .at) m ≤ length (s .args .file .now)
 
-cell-ends : (c : tie.After-enum-told2) → Ends Cell (start (cell c))
+cell-ends : (c : tie.After-enum-told2) → Ends Cell (cell c)
 cell-ends c = whole-of (ok (cell c)) {M = Cell} (c .enum-told2 .given .1)
 
-operation-ends : (c : tie.After-enum-told3) → Ends Operation (start (operation c))
+operation-ends : (c : tie.After-enum-told3) → Ends Operation (operation c)
 operation-ends c = whole-of (ok (operation c)) {M = Operation} (c .enum-told3 .given .1)
 
-schedule-ends : (c : tie.After-enum-told4) → Ends Schedule (start (schedule c))
+schedule-ends : (c : tie.After-enum-told4) → Ends Schedule (schedule c)
 schedule-ends c = whole-of (ok (schedule c)) {M = Schedule} (c .enum-told4 .given .1)
 
 small : (c : tie.After-total-size) → c .total-size .result ≤ 5
-small c = omega (arith, c .total-size .ensures, total-bytes (start (cell (c .before)) .args .flagged))
+small c = omega (arith, c .total-size .ensures, total-bytes (cell (c .before) .args .flagged))
 
 small-2 : (c : tie.After-total-size2) → c .total-size2 .result ≤ 5
-small-2 c = omega (arith, c .total-size2 .ensures, total-bytes (start (operation (c .before)) .args .flagged))
-
-mark-of-requires : tie.Need-mark-of-requires
-mark-of-requires c κs = let s = c .before in omega (arith, within (sound (layout s) (s .args .file .now) (s .args .position) refl (s .pre)))
+small-2 c = omega (arith, c .total-size2 .ensures, total-bytes (operation (c .before) .args .flagged))
 
 add-first : tie.Need-add-first
-add-first c = record { fits = omega (arith, within (ok c)) }
+add-first c = record { fits = omega (arith, within (ok (c .before))) }
 
 shared-slice-read-first : tie.Need-shared-slice-read-first
-shared-slice-read-first c = omega (arith, within (ok (c .before)))
+shared-slice-read-first c = omega (arith, within (ok (read c)))
 
 cast-first : tie.Need-cast-first
-cast-first c = omega (arith, c .shared-slice-known2 .given (start (c .before) .args .position .at + 2))
+cast-first c = omega (arith, c .shared-slice-known2 .given (read c .args .position .at + 2))
 
 enum-told : tie.Need-enum-told
 enum-told c = search needs
@@ -123,7 +130,7 @@ add-next-6 : tie.Need-add-next-6
 add-next-6 c = record { fits = omega (arith, small-2 c, c .total-size2 .ensures, operation-ends (c .before)) }
 
 add-next-7 : tie.Need-add-next-7
-add-next-7 c = record { fits = omega (arith, few (ok (operation (c .before .before))) (c .before .before .enum-told3 .given .1)) }
+add-next-7 c = record { fits = omega (arith, few (ok (operation (counted c))) (counted c .enum-told3 .given .1)) }
 
 enum-told-4 : tie.Need-enum-told-4
 enum-told-4 c = search needs
@@ -141,39 +148,31 @@ enum-told-5 : tie.Need-enum-told-5
 enum-told-5 c = search needs
 
 returns : tie.Need-returns
-returns c = let m = table c in
-    let s = start m in
-    past-table (layout s) (s .args .file .now) (s .args .position) (m .mark-of .ensures) (c .enum-told .given .1) (exponent (ok m) (c .enum-told .given .1))
+returns c = let s = table c in
+    let told = c .enum-told .given .1 in
+    past-table (layout s) (s .args .file .now) (s .args .position) (s .pre .1) told (exponent (ok s) told)
 
 returns-2 : tie.Need-returns-2
-returns-2 c = let size = c .before .before in
-    let told = size .before in
-    let m = cell told in
-    let s = start m in
-    past-cell (layout s) (s .args .file .now) (s .args .position) (m .mark-of .ensures) (told .enum-told2 .given .1) (size .total-size .ensures)
+returns-2 c = let size = sized c in
+    let s = cell (size .before) in
+    past-cell (layout s) (s .args .file .now) (s .args .position) (s .pre .1) (size .before .enum-told2 .given .1) (size .total-size .ensures)
     (c .pair-at .ensures ∙ pair-agrees (part-agrees 4 (s .args .file .now) (s .args .position .at)) 2 (omega arith))
 
 returns-3 : tie.Need-returns-3
-returns-3 c = let size = c .before in
-    let told = size .before in
-    let m = operation told in
-    let s = start m in
-    past-operation (layout s) (s .args .file .now) (s .args .position) (m .mark-of .ensures) (told .enum-told3 .given .1) (size .total-size2 .ensures)
+returns-3 c = let s = operation (counted c) in
+    past-operation (layout s) (s .args .file .now) (s .args .position) (s .pre .1) (counted c .enum-told3 .given .1) (c .before .total-size2 .ensures)
 
 returns-4 : tie.Need-returns-4
-returns-4 c = let told = c .before in
-    let m = schedule told in
-    let s = start m in
-    past-schedule (layout s) (s .args .file .now) (s .args .position) (m .mark-of .ensures) (told .enum-told4 .given .1)
+returns-4 c = let s = schedule (c .before) in
+    past-schedule (layout s) (s .args .file .now) (s .args .position) (s .pre .1) (c .before .enum-told4 .given .1)
 
 returns-5 : tie.Need-returns-5
-returns-5 c = absurd (is-known (ok (c .before .before .before)) (c .enum-told5 .given .1))
+returns-5 c = absurd (is-known (ok (unknown c)) (c .enum-told5 .given .1))
 
 pub past-spec : {M : Type 1} → statement M
 past-spec =
     tie.close
     (tie.spec
-    mark-of-requires
     add-first
     shared-slice-read-first
     cast-first
