@@ -1,1 +1,4 @@
+pub mod CellLines
 pub mod Lines
+pub mod RowLines
+pub mod Elements

@@ -17,10 +17,10 @@ ghost use Rattle.semantics.specs.Narrow.{narrowWidth};
 ghost use Rattle.semantics.specs.Listing.{narrowText, logText, listing};
 ghost use Rattle.semantics.specs.Widths.{widthOf, textOf, mostTextOf};
 ghost use Rattle.text.specs.Writing.{lastPosition, written};
-use cell_lines::put_cells;
-use lines::put_counts;
-use lines::put_refusal;
-use row_lines::put_rows;
+use lines::cells::put_cells;
+use lines::counts::put_counts;
+use lines::counts::put_refusal;
+use lines::rows::put_rows;
 use semantics::MOST_CELLS;
 use semantics::MOST_OPERATIONS;
 use semantics::MOST_TEXT;
@@ -74,17 +74,17 @@ fn put_listing(
     log: &[u8],
     cells32: &[u32],
     cells64: &[u64],
-    wide: bool,
+    flagged: bool,
 ) -> usize
     ensures { λ r. ⌜ written (record { at = 0; out = now (out .entry) })
-        (listing (widthOf wide) (textOf wide) outcome (now (operations .entry)) (now (answers32 .entry) ++ now (answers64 .entry)) (now (log .entry)) (now (cells32 .entry) ++ now (cells64 .entry)))
+        (listing (widthOf flagged) (textOf flagged) outcome (now (operations .entry)) (now (answers32 .entry) ++ now (answers64 .entry)) (now (log .entry)) (now (cells32 .entry) ++ now (cells64 .entry)))
         ≡ record { at = r; out = now (out .exit) } ⌝ }
 {
     if outcome.number == 0 {
         let at1 = put_counts(out, 0, operations.len(), outcome);
-        let at2 = put_rows(out, at1, operations, answers32, answers64, wide);
+        let at2 = put_rows(out, at1, operations, answers32, answers64, flagged);
         let at3 = put_log(out, at2, outcome.done, log);
-        return put_cells(out, at3, cells32, cells64, wide);
+        return put_cells(out, at3, cells32, cells64, flagged);
     }
     put_refusal(out, 0, outcome.number, outcome.place)
 }
@@ -92,12 +92,12 @@ fn put_listing(
 // A length that no text of so many operations, log bytes and cells exceeds; where none is known, one
 // that no slice has. None is where the slice of the other width is not empty: its words may have longer
 // keys than those of this one.
-fn most_bytes(operations: usize, log: usize, cells32: usize, cells64: usize, wide: bool) -> usize
-    ensures { λ r. ⌜ (r < lastPosition → (mostTextOf wide ≤ r) × (operations ≤ mostOperations) × (log ≤ mostOperations) × (cells32 + cells64 ≤ mostCells) × (wide ≡ false → cells64 ≡ 0)) ⌝ }
+fn most_bytes(operations: usize, log: usize, cells32: usize, cells64: usize, flagged: bool) -> usize
+    ensures { λ r. ⌜ (r < lastPosition → (mostTextOf flagged ≤ r) × (operations ≤ mostOperations) × (log ≤ mostOperations) × (cells32 + cells64 ≤ mostCells) × (flagged ≡ false → cells64 ≡ 0)) ⌝ }
 {
     if operations <= MOST_OPERATIONS {
         if log <= MOST_OPERATIONS {
-            if wide {
+            if flagged {
                 if cells32 == 0 {
                     if cells64 <= MOST_CELLS {
                         return MOST_WIDE_TEXT;
@@ -125,18 +125,18 @@ fn has_room(
     log: &[u8],
     cells32: &[u32],
     cells64: &[u64],
-    wide: bool,
+    flagged: bool,
     room: usize,
 ) -> bool
     requires { ⌜ room < lastPosition ⌝ }
-    ensures { λ r. ⌜ r ≡ leb (length (listing (widthOf wide) (textOf wide) outcome (now (operations .entry)) (now (answers32 .entry) ++ now (answers64 .entry)) (now (log .entry)) (now (cells32 .entry) ++ now (cells64 .entry)))) room ⌝ }
+    ensures { λ r. ⌜ r ≡ leb (length (listing (widthOf flagged) (textOf flagged) outcome (now (operations .entry)) (now (answers32 .entry) ++ now (answers64 .entry)) (now (log .entry)) (now (cells32 .entry) ++ now (cells64 .entry)))) room ⌝ }
 {
     let most = most_bytes(
         operations.len(),
         log.len(),
         cells32.len(),
         cells64.len(),
-        wide,
+        flagged,
     );
     if most <= room {
         return true;
@@ -151,7 +151,7 @@ fn has_room(
         log,
         cells32,
         cells64,
-        wide,
+        flagged,
     );
     length <= room
 }
@@ -166,10 +166,10 @@ fn list_lent(
     log: &[u8],
     cells32: &[u32],
     cells64: &[u64],
-    wide: bool,
+    flagged: bool,
     out: &mut [u8],
 ) -> Written
-    ensures { λ r. ⌜ handed (listing (widthOf wide) (textOf wide) outcome (now (operations .entry)) (now (answers32 .entry) ++ now (answers64 .entry)) (now (log .entry)) (now (cells32 .entry) ++ now (cells64 .entry))) (now (out .entry))
+    ensures { λ r. ⌜ handed (listing (widthOf flagged) (textOf flagged) outcome (now (operations .entry)) (now (answers32 .entry) ++ now (answers64 .entry)) (now (log .entry)) (now (cells32 .entry) ++ now (cells64 .entry))) (now (out .entry))
         ≡ record { written = r; out = now (out .exit) } ⌝ }
 {
     if has_room(
@@ -180,7 +180,7 @@ fn list_lent(
         log,
         cells32,
         cells64,
-        wide,
+        flagged,
         out.len(),
     ) {
         return Written {
@@ -195,7 +195,7 @@ fn list_lent(
                 log,
                 cells32,
                 cells64,
-                wide,
+                flagged,
             ),
         };
     }

@@ -1,3 +1,4 @@
+-- Must be believed of the writers' own promises, in text and lines: what `report` promises rests on `handed` of semantics/specs/Text.antt.
 -- Bytes written into a slice of any length, from any position on.
 -- Assumes nothing.
 use Prim.Native.Nat.{ℕ, _+_, min}

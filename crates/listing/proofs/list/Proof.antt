@@ -5,6 +5,10 @@ use borrow.Author.Needs.{needs}
 use Rattle.listing.proofs.list.Statement.{statement}
 use Rattle.listing.proofs.list.Tie as tie
 
+-- the contexts that the facts look back to
+abbrev after-list-lent : tie.After-slice-known2 → tie.After-list-lent
+after-list-lent c = c .before .before
+
 abbrev start : tie.After-list-lent → tie.Start
 start c = c .before .before .before .before .before .before .before .before .before
 
@@ -22,7 +26,7 @@ same-length c = search needs
 
 returns : tie.Need-returns
 returns c =
-    let call = c .before .before in
+    let call = after-list-lent c in
     let a = start call .args in
     narrow-alone (a .outcome) (a .operations .now) (a .answers .now) (a .log .now) (a .cells .now) (a .out .now) (call .list-lent .ensures)
 

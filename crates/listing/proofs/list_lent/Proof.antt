@@ -6,6 +6,13 @@ use borrow.Author.Needs.{needs}
 use Rattle.listing.proofs.list_lent.Statement.{statement}
 use Rattle.listing.proofs.list_lent.Tie as tie
 
+-- the contexts that the facts look back to
+abbrev then1 : tie.After-put-listing → tie.Then1
+then1 c = c .before .before
+
+abbrev after-put-listing : tie.After-slice-known2 → tie.After-put-listing
+after-put-listing c = c .before .before
+
 abbrev start : tie.After-has-room → tie.Start
 start c = c .before .before .before .before .before .before .before .before
 
@@ -20,8 +27,8 @@ same-length c = search needs
 
 returns : tie.Need-returns
 returns c =
-    let put = c .before .before in
-    let test = put .before .before in
+    let put = after-put-listing c in
+    let test = then1 put in
     -- what owning the slice tells: it is shorter than the largest usize
     let short = start (test .before) .good .1 .1 .1 .1 .1 .1 .1 .1 .0 in
     handed-whole _ _ (test .before .has-room .ensures) (test .if1 .taken) (omega (arith, short)) (put .put-listing .ensures)

@@ -22,6 +22,22 @@ Inv-loop out₀ at done log n next₀ i₀ t8 out next i =
 abbrev μ-loop : tie.MeasureT-loop
 μ-loop out₀ at done log n next₀ i₀ t8 out next i = n - i
 
+-- the contexts that the facts look back to
+abbrev start : tie.After-least Inv-loop μ-loop → tie.Start Inv-loop μ-loop
+start c = c .before .before .before
+
+abbrev after-least : tie.After-loop Inv-loop μ-loop → tie.After-least Inv-loop μ-loop
+after-least c = c .before .before
+
+abbrev in-loop : tie.After-shared-slice-known2 Inv-loop μ-loop → tie.In-loop Inv-loop μ-loop
+in-loop c = c .before .before .before
+
+abbrev after-put-labelled : tie.After-slice-known2 Inv-loop μ-loop → tie.After-put-labelled Inv-loop μ-loop
+after-put-labelled c = c .before .before
+
+abbrev start-of-at-loop : tie.At-loop Inv-loop μ-loop → tie.Start Inv-loop μ-loop
+start-of-at-loop c = start (c .before)
+
 least-requires : tie.Need-least-requires Inv-loop μ-loop
 least-requires c κs = search needs
 
@@ -35,7 +51,7 @@ shared-slice-read-put-labelled : tie.Need-shared-slice-read-put-labelled Inv-loo
 shared-slice-read-put-labelled c = search needs
 
 cast-put-labelled : tie.Need-cast-put-labelled Inv-loop μ-loop
-cast-put-labelled c = omega (arith, c .shared-slice-known2 .given (c .before .before .before .before .loop .i))
+cast-put-labelled c = omega (arith, c .shared-slice-known2 .given (in-loop c .before .loop .i))
 
 put-labelled-requires : tie.Need-put-labelled-requires Inv-loop μ-loop
 put-labelled-requires c κs = search needs
@@ -49,9 +65,9 @@ loop-less c = search needs
 loop-again : tie.Need-loop-again Inv-loop μ-loop
 unfolding text
 loop-again c =
-    let put = c .before .before in
-    let turn = put .before .before .before .before in
-    let log = turn .before .before .before .before .before .args .log .now in
+    let put = after-put-labelled c in
+    let turn = in-loop (put .before) in
+    let log = start-of-at-loop (turn .before) .args .log .now in
     (omega (arith, turn .loop-test .taken), next-text _ (turn .before .loop .i) (entries log) (turn .before .loop .inv .1) (put .put-labelled .ensures))
 
 same-length : tie.Need-same-length Inv-loop μ-loop
@@ -59,8 +75,8 @@ same-length c = kept-length _ _ (c .before .loop .inv .1)
 
 returns : tie.Need-returns Inv-loop μ-loop
 returns c =
-    let a = c .before .before .before .before .before .args in
-    let all : c .before .loop .i ≡ min (a .done) (length (a .log .now)) = omega (arith, c .before .before .least .ensures, c .loop-test .left, c .before .loop .inv .0) in
+    let a = start-of-at-loop (c .before) .args in
+    let all : c .before .loop .i ≡ min (a .done) (length (a .log .now)) = omega (arith, after-least c .least .ensures, c .loop-test .left, c .before .loop .inv .0) in
     same-text _ (ap (λ n. textsBelow n (entries (a .log .now))) all) (c .before .loop .inv .1)
 
 pub put-entries-spec : {M : Type 1} → statement M

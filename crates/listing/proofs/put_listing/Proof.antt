@@ -7,6 +7,19 @@ use borrow.Author.Needs.{needs}
 use Rattle.listing.proofs.put_listing.Statement.{statement}
 use Rattle.listing.proofs.put_listing.Tie as tie
 
+-- the contexts that the facts look back to
+abbrev else1 : tie.After-put-refusal → tie.Else1
+else1 c = c .before .before
+
+abbrev then1 : tie.After-put-counts → tie.Then1
+then1 c = c .before .before
+
+abbrev after-put-refusal : tie.After-slice-known6 → tie.After-put-refusal
+after-put-refusal c = c .before .before
+
+abbrev after-put-cells : tie.After-slice-known5 → tie.After-put-cells
+after-put-cells c = c .before .before
+
 -- the lines that were written one after another, and the test before them
 abbrev log-of : tie.After-put-cells → tie.After-put-log
 log-of c = c .before .before .before .before
@@ -37,13 +50,13 @@ same-length c = search needs
 
 returns : tie.Need-returns
 returns c =
-    let cells = c .before .before in
+    let cells = after-put-cells c in
     let log = log-of cells in
     let rows = rows-of log in
     let counts = counts-of rows in
-    let test = counts .before .before in
+    let test = then1 counts in
     let a = start (test .before) .args in
-    run-lines _ (widthOf (a .wide)) (textOf (a .wide)) (a .outcome) (a .operations .now) (a .answers32 .now ++ a .answers64 .now) (a .log .now)
+    run-lines _ (widthOf (a .flagged)) (textOf (a .flagged)) (a .outcome) (a .operations .now) (a .answers32 .now ++ a .answers64 .now) (a .log .now)
     (a .cells32 .now ++ a .cells64 .now) (test .if1 .taken) (counts .put-counts .ensures) (rows .put-rows .ensures) (log .put-log .ensures)
     (cells .put-cells .ensures)
 
@@ -55,10 +68,10 @@ same-length-2 c = search needs
 
 returns-2 : tie.Need-returns-2
 returns-2 c =
-    let put = c .before .before in
-    let test = put .before .before in
+    let put = after-put-refusal c in
+    let test = else1 put in
     let a = start (test .before) .args in
-    one-line _ (widthOf (a .wide)) (textOf (a .wide)) (a .outcome) (a .operations .now) (a .answers32 .now ++ a .answers64 .now) (a .log .now)
+    one-line _ (widthOf (a .flagged)) (textOf (a .flagged)) (a .outcome) (a .operations .now) (a .answers32 .now ++ a .answers64 .now) (a .log .now)
     (a .cells32 .now ++ a .cells64 .now) (test .if1 .left) (put .put-refusal .ensures)
 
 pub put-listing-spec : {M : Type 1} → statement M

@@ -18,6 +18,13 @@ Inv-loop out₀ at bytes next₀ i₀ out next i =
 abbrev μ-loop : tie.MeasureT-loop
 μ-loop out₀ at bytes next₀ i₀ out next i = length bytes - i
 
+-- the contexts that the facts look back to
+abbrev in-loop : tie.After-put Inv-loop μ-loop → tie.In-loop Inv-loop μ-loop
+in-loop c = c .before .before .before
+
+abbrev after-put : tie.After-slice-known2 Inv-loop μ-loop → tie.After-put Inv-loop μ-loop
+after-put c = c .before .before
+
 loop-holds : tie.Need-loop-holds Inv-loop μ-loop
 unfolding written
 loop-holds c = (omega arith, refl)
@@ -36,8 +43,8 @@ loop-less c = search needs
 
 loop-again : tie.Need-loop-again Inv-loop μ-loop
 loop-again c =
-    let turn = c .before .before .before .before .before in
-    (omega arith, next-byte _ _ _ (turn .loop-test .taken) (turn .before .loop .inv .1) (c .before .before .put .ensures))
+    let turn = in-loop (after-put c) in
+    (omega arith, next-byte _ _ _ (turn .loop-test .taken) (turn .before .loop .inv .1) (after-put c .put .ensures))
 
 same-length : tie.Need-same-length Inv-loop μ-loop
 same-length c = kept-length _ _ (c .before .loop .inv .1)

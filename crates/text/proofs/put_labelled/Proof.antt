@@ -6,6 +6,10 @@ use borrow.Author.Needs.{needs}
 use Rattle.text.proofs.put_labelled.Statement.{statement}
 use Rattle.text.proofs.put_labelled.Tie as tie
 
+-- the contexts that the facts look back to
+abbrev after-put-number : tie.After-slice-known3 → tie.After-put-number
+after-put-number c = c .before .before
+
 abbrev label-of : tie.After-put-number → tie.After-put-bytes
 label-of c = c .before .before .before .before
 
@@ -23,7 +27,7 @@ same-length c = search needs
 
 returns : tie.Need-returns
 returns c =
-    let put = c .before .before in
+    let put = after-put-number c in
     let label = label-of put in
     let a = start label .args in
     next _ (a .label .now) (decimal (a .n)) (label .put-bytes .ensures) (put .put-number .ensures)

@@ -14,6 +14,16 @@ Inv-loop out at n digits₀ k₀ rest₀ digits k rest = Laid n k rest digits
 abbrev μ-loop : tie.MeasureT-loop
 μ-loop out at n digits₀ k₀ rest₀ digits k rest = rest
 
+-- the contexts that the facts look back to
+abbrev after-last-digit2 : tie.After-digits Inv-loop μ-loop → tie.After-last-digit2 Inv-loop μ-loop
+after-last-digit2 c = c .before .before
+
+abbrev after-digits : tie.After-put-bytes Inv-loop μ-loop → tie.After-digits Inv-loop μ-loop
+after-digits c = c .before .before
+
+abbrev after-put-bytes : tie.After-slice-known2 Inv-loop μ-loop → tie.After-put-bytes Inv-loop μ-loop
+after-put-bytes c = c .before .before
+
 -- the turn in which a digit was found, and the end of the loop after which the first one was
 abbrev turn : tie.After-last-digit Inv-loop μ-loop → tie.At-loop Inv-loop μ-loop
 turn c = c .before .before
@@ -55,7 +65,7 @@ part-put-bytes-start : tie.Need-part-put-bytes-start Inv-loop μ-loop
 part-put-bytes-start c = search needs
 
 part-put-bytes-end : tie.Need-part-put-bytes-end Inv-loop μ-loop
-part-put-bytes-end c = let digit = c .before .before in laid-end (end digit .loop .inv) (digit .last-digit2 .ensures)
+part-put-bytes-end c = let digit = after-last-digit2 c in laid-end (end digit .loop .inv) (digit .last-digit2 .ensures)
 
 put-bytes-requires : tie.Need-put-bytes-requires Inv-loop μ-loop
 put-bytes-requires c κs = search needs
@@ -65,8 +75,8 @@ same-length c = search needs
 
 returns : tie.Need-returns Inv-loop μ-loop
 returns c =
-    let put = c .before .before in
-    let digit = put .before .before .before .before in
+    let put = after-put-bytes c in
+    let digit = after-last-digit2 (after-digits put) in
     same-text _ (sym (laid-all (end digit .loop .inv) (digit .last-digit2 .ensures) (digit .before .loop-test .left))) (put .put-bytes .ensures)
 
 pub put-number-spec : {M : Type 1} → statement M

@@ -1,0 +1,2 @@
+pub mod Reached
+pub mod Element
