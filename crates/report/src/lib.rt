@@ -10,7 +10,7 @@ ghost use Rattle.semantics.specs.Text.{mostText, handed};
 ghost use Rattle.semantics.specs.Listing.{narrowText};
 ghost use Rattle.semantics.specs.Response.{listed, response};
 use listing::list;
-use outcome::refused;
+use run::outcome::refused;
 use run::run;
 use runfile::load;
 use semantics::MOST_CELLS;

@@ -11,9 +11,31 @@ use Rattle.report.proofs.Responded.{Answers, answers, refusal-listed, k
 use Rattle.report.proofs.report.Statement.{statement}
 use Rattle.report.proofs.report.Tie as tie
 
+-- the contexts that the facts look back to
+abbrev start : tie.After-load → tie.Start
+start c = c .before .before .before .before .before .before
+
+abbrev after-load : tie.After-struct-known → tie.After-load
+after-load c = c .before .before .before .before
+
+abbrev after-struct-known : tie.After-refused → tie.After-struct-known
+after-struct-known c = c .before .before
+
+abbrev then1 : tie.After-run-and-list → tie.Then1
+then1 c = c .before .before .before .before .before .before .before
+
+abbrev after-refused : tie.After-list → tie.After-refused
+after-refused c = c .before .before .before .before .before .before
+
+abbrev after-list : tie.After-slice-known3 → tie.After-list
+after-list c = c .before .before
+
+abbrev after-run-and-list : tie.After-slice-known2 → tie.After-run-and-list
+after-run-and-list c = c .before .before .before .before .before
+
 -- what the reader left of a file decides the response
 answered : (c : tie.After-load)
-    → Answers (c .before .before .before .before .before .before .args .file .now)
+    → Answers (start c .args .file .now)
     (record { loaded = c .load .result; cells = c .load .last .1 .0; operations = c .load .last .1 .1 .0; schedule = c .load .last .1 .1 .1 .0 })
 answered c =
     subst (Answers _) (c .load .ensures .0)
@@ -64,7 +86,7 @@ same-length c = search needs
 returns : tie.Need-returns
 unfolding Answers runOf
 returns c =
-    kept _ _ _ _ (answered (c .before .before .before .before .before .before .before .before .before .before .before .before .before .before .before .before .before) .0 (c .before .before .before .before .before .before .before .before .before .before .before .before .if1 .taken)) (c .before .before .before .before .before .run-and-list .ensures)
+    kept _ _ _ _ (answered (after-load (then1 (after-run-and-list c) .before)) .0 (then1 (after-run-and-list c) .if1 .taken)) (after-run-and-list c .run-and-list .ensures)
 
 refused-requires : tie.Need-refused-requires
 refused-requires c κs = search needs
@@ -90,10 +112,10 @@ same-length-2 c = search needs
 returns-2 : tie.Need-returns-2
 unfolding Answers
 returns-2 c =
-    let made = c .before .before .before .before .before .before .before .before in
+    let made = after-refused (after-list c) in
     let wrong = made .before .if1 .left in
-    kept _ _ _ _ (answered (made .before .before .before .before .before .before) .1 wrong ∙ refusal-listed narrowWidth narrowText _ _ _ _ _ _ wrong (made .refused .ensures))
-    (c .before .before .list .ensures)
+    kept _ _ _ _ (answered (after-load (after-struct-known made)) .1 wrong ∙ refusal-listed narrowWidth narrowText _ _ _ _ _ _ wrong (made .refused .ensures))
+    (after-list c .list .ensures)
 
 pub report-spec : {M : Type 1} → statement M
 report-spec =

@@ -7,6 +7,13 @@ use Rattle.report.proofs.Responded.{run-listed}
 use Rattle.report.proofs.run_and_list.Statement.{statement}
 use Rattle.report.proofs.run_and_list.Tie as tie
 
+-- the contexts that the facts look back to
+abbrev after-run : tie.After-list → tie.After-run
+after-run c = c .before .before .before .before .before .before .before .before .before .before .before
+
+abbrev after-list : tie.After-slice-known8 → tie.After-list
+after-list c = c .before .before
+
 run-requires : tie.Need-run-requires
 run-requires c κs = search needs
 
@@ -27,8 +34,8 @@ same-length-4 c = search needs
 
 returns : tie.Need-returns
 returns c =
-    let ran = c .before .before .before .before .before .before .before .before .before .before .before .before .before in
-    run-listed narrowWidth narrowText _ _ (ran .run .ensures .result) (c .before .before .list .ensures)
+    let ran = after-run (after-list c) in
+    run-listed narrowWidth narrowText _ _ (ran .run .ensures .result) (after-list c .list .ensures)
 
 pub run-and-list-spec : {M : Type 1} → statement M
 run-and-list-spec =

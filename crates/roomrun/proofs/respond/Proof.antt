@@ -13,6 +13,13 @@ use Rattle.semantics.specs.Text.{Handed, handed}
 use Rattle.roomrun.proofs.respond.Statement.{statement}
 use Rattle.roomrun.proofs.respond.Tie as tie
 
+-- the contexts that the facts look back to
+abbrev start-of-report : tie.After-report → tie.Start
+start-of-report c = c .before .before .before .before
+
+abbrev after-report : tie.After-slice-known2 → tie.After-report
+after-report c = c .before .before
+
 -- what is handed over of a text that fits, and of one that does not
 abbrev over-front : List ℕ → List ℕ → Handed
 over-front bytes out = record { written = record { number = 0; place = 0; length = length bytes }; out = over bytes out }
@@ -36,8 +43,8 @@ same-length c = search needs
 
 returns : tie.Need-returns
 returns c =
-    let report = c .before .before in
-    let start = report .before .before .before .before in
+    let report = after-report c in
+    let start = start-of-report report in
     let said = report .report .ensures in
     (whole _ _ (said .0) (said .1 .0 (start .pre)), said .1 .1)
 

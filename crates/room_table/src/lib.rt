@@ -1,15 +1,45 @@
-// The reader, the run and the whole report under names of C, as the tests and the bench call them from
-// Rust. A slice is a pointer and a length, and what is returned is a struct of C's layout. Nothing is
-// decided here: each function is the one that it calls, with the equation that function promises.
+// What is offered under names of C. room_home and room_sum are the two functions that the load module
+// calls, with numbers only (document 01, "The run file"); include/room_table.h declares them. The
+// reader, the run and the whole report are for the tests and the bench, which call them from Rust: a slice
+// is a pointer and a length, and what is returned is a struct of C's layout. Of these three nothing is
+// decided here: each is the function that it calls, with the equation that function promises.
 ghost use mathlib.Core.Path.{_≡_};
 ghost use Rattle.semantics.specs.Response.{response};
-ghost use Rattle.semantics.specs.Narrow.{narrowWidth};
+ghost use Rattle.semantics.specs.Narrow.{narrowWidth, roomHome, roomSum};
 ghost use Rattle.semantics.specs.Run.{runResult};
 ghost use Rattle.semantics.specs.RunFile.{narrowFile, reading};
 ghost use Rattle.semantics.specs.Text.{handed};
+use hash::home;
+use hash::size_allowed;
+use packing::is_live;
+use packing::narrow::narrow_total;
+use rules::effect::plus;
 use semantics::Loaded;
 use semantics::Outcome;
 use semantics::Written;
+
+// The home of a key in c cells, or 65,535 where c or the key is not allowed.
+// Both are judged first, so the key has sixteen bits.
+#[no_mangle]
+pub extern "C" fn room_home(key: u32, c: u32) -> u32
+    ensures { λ r. ⌜ r ≡ roomHome key c ⌝ }
+{
+    if size_allowed(c as usize) {
+        if is_live(key) {
+            return home(key as u16, c);
+        }
+    }
+    65535
+}
+
+// The sum of two totals, or 65,535 (document 01's pinned) where it is larger.
+#[no_mangle]
+pub extern "C" fn room_sum(a: u16, b: u16) -> u32
+    ensures { λ r. ⌜ r ≡ roomSum a b ⌝ }
+{
+    let sum = plus(65535, narrow_total(a), narrow_total(b));
+    sum.amount
+}
 
 // A whole run.
 #[no_mangle]

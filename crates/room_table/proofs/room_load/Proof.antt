@@ -1,8 +1,12 @@
--- `boundary::room_load` meets its contract: it is the equation of `runfile::load`.
+-- `room_table::room_load` meets its contract: it is the equation of `runfile::load`.
 -- Assumes nothing.
 use borrow.Author.Needs.{needs}
-use Rattle.boundary.proofs.room_load.Statement.{statement}
-use Rattle.boundary.proofs.room_load.Tie as tie
+use Rattle.room_table.proofs.room_load.Statement.{statement}
+use Rattle.room_table.proofs.room_load.Tie as tie
+
+-- the contexts that the facts look back to
+abbrev after-load : tie.After-slice-known6 → tie.After-load
+after-load c = c .before .before .before .before .before .before
 
 load-requires : tie.Need-load-requires
 load-requires c κs = search needs
@@ -17,7 +21,7 @@ same-length-3 : tie.Need-same-length-3
 same-length-3 c = search needs
 
 returns : tie.Need-returns
-returns c = c .before .before .before .before .before .before .load .ensures .0
+returns c = after-load c .load .ensures .0
 
 pub room-load-spec : {M : Type 1} → statement M
 room-load-spec = tie.close (tie.spec load-requires same-length same-length-2 same-length-3 returns)
