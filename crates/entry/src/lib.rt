@@ -1,7 +1,9 @@
 // What an entry of a schedule works on, and what it leaves (document 01, "What one step does"): a table and
 // its answers lent as two slices of which one is empty, and a record for each operation. The definitions
 // say where a run stands between two entries, and the laws what its loop keeps; the functions make the
-// records that it begins with. Every function takes every input.
+// records that it begins with, and what it returns. Every function takes every input.
+pub mod outcome; // outcome.rt: what a run returns
+
 ghost use mathlib.Core.Path.{_≡_};
 ghost use Rattle.semantics.specs.Widths.{widthOf};
 ghost use Rattle.step.specs.Record.{readingAt};

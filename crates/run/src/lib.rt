@@ -3,8 +3,6 @@
 // that it names, or is idle. What follows the checks is written once for both widths: the table and the
 // answers are two slices each, of narrow words and of wide ones, of which one is empty, and words are
 // taken apart and packed at this edge alone. What asks something of its caller is private here.
-pub mod outcome; // outcome.rt: what a run returns
-
 ghost use mathlib.Core.Path.{_≡_};
 ghost use mathlib.Core.List.{List};
 ghost use Prim.Native.Nat.{_+_, _≤_, _<_};
@@ -21,11 +19,11 @@ ghost use Rattle.step.specs.declared.Record.{Record};
 ghost use Rattle.step.specs.Record.{begun, passing};
 ghost use Rattle.entry.specs.Lent.{cellIn, operationIn, cellAt, placed, withAnswer, cleared, wordsIn, Ready};
 ghost use Rattle.entry.specs.Entry.{storedBy, isPass, afterEntry};
-use crate::outcome::made;
-use crate::outcome::refused;
 use bitset::size;
 use bitset::with;
 use entry::begin;
+use entry::outcome::made;
+use entry::outcome::refused;
 use entry::reading;
 use packing::either::key_in;
 use packing::either::kind_in;

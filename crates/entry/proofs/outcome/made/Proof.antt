@@ -1,8 +1,8 @@
--- `run::outcome::made` meets its contract.
+-- `entry::outcome::made` meets its contract.
 -- Assumes nothing.
 use borrow.Author.Needs.{needs}
-use Rattle.run.proofs.outcome.made.Statement.{statement}
-use Rattle.run.proofs.outcome.made.Tie as tie
+use Rattle.entry.proofs.outcome.made.Statement.{statement}
+use Rattle.entry.proofs.outcome.made.Tie as tie
 
 size-requires : tie.Need-size-requires
 size-requires c κs = search needs

@@ -6,7 +6,7 @@ ghost use Rattle.semantics.specs.Run.{madeOutcome, refusedOutcome};
 use semantics::Outcome;
 
 // A run that was made: of the finished operations, a set of 64 places, the size counts.
-pub(crate) fn made(finished: u64, lost: usize, idle: usize) -> Outcome
+pub fn made(finished: u64, lost: usize, idle: usize) -> Outcome
     ensures { λ r. ⌜ r ≡ madeOutcome (ones finished) lost idle ⌝ }
 {
     Outcome {

@@ -1,8 +1,8 @@
--- `run::outcome::refused` meets its contract.
+-- `entry::outcome::refused` meets its contract.
 -- Assumes nothing.
 use mathlib.Core.Path.{refl}
-use Rattle.run.proofs.outcome.refused.Statement.{statement}
-use Rattle.run.proofs.outcome.refused.Tie as tie
+use Rattle.entry.proofs.outcome.refused.Statement.{statement}
+use Rattle.entry.proofs.outcome.refused.Tie as tie
 
 returns : tie.Need-returns
 returns c = refl
