@@ -33,7 +33,7 @@ pub fn word_at(narrow: &[u32], wide: &[u64], i: usize) -> Element
     Element::Past
 }
 
-// The same as a number: 0, the word of an empty cell, past the last.
+// Word i of those lent as a number: 0, the word of an empty cell, past the last.
 pub fn load(narrow: &[u32], wide: &[u64], at: usize) -> u64
     ensures { λ r. ⌜ r ≡ getD (now (narrow .entry) ++ now (wide .entry)) at 0 ⌝ }
 {

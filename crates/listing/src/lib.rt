@@ -206,7 +206,8 @@ fn list_lent(
     }
 }
 
-// The same of a narrow run: nothing wide is lent.
+// Writes the text of what a narrow run returned, with its operations and what it left: whole, over the
+// front of the slice, or not at all if the slice is too short. Nothing wide is lent.
 pub fn list(
     outcome: Outcome,
     operations: &[u64],

@@ -59,6 +59,7 @@ fn has_table(file: &[u8], at: usize, flagged: bool) -> bool
     has_mark(file, at, b"TB")
 }
 
+// The mark that stands at an offset, or none that is known.
 pub fn mark_at(file: &[u8], at: usize, flagged: bool) -> Mark
     ensures { λ r. ⌜ r ≡ markAt (layoutOf flagged) (now (file .entry)) at ⌝ }
 {

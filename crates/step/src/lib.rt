@@ -213,9 +213,9 @@ pub fn advance(
     stepped.left
 }
 
-// The same by value: a local record is lent and handed back. The run goes through here, so that the step
-// over a lent record is the one that is taken; an element of its array of records could be lent only in
-// a proof by hand.
+// One step of a record by value: a local record is lent to the step and handed back. The run goes
+// through here, so that the step over a lent record is the one that is taken; an element of its array of
+// records could be lent only in a proof by hand.
 pub fn take_step(
     cell: Cell,
     ceiling: u32,
