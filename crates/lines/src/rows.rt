@@ -10,7 +10,6 @@ use crate::lent::load;
 use packing::either::key_in;
 use packing::either::kind_in;
 use packing::either::total_in;
-use packing::wide::wide_answer_code;
 use text::put;
 use text::put_labelled;
 use text::terms::put_code;
@@ -22,7 +21,7 @@ fn code_in(answer: u64, flagged: bool) -> u64
     ensures { λ r. ⌜ r ≡ widthOf flagged .answerCode answer ⌝ }
 {
     if flagged {
-        return wide_answer_code(answer) as u64;
+        return answer >> 33;
     }
     answer >> 16
 }

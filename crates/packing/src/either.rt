@@ -1,17 +1,12 @@
-// The fields that words of either width have, by a flag that says which width: its layout takes them out.
+// The fields that words of either width have, by a flag that says which layout they are taken out by.
 ghost use mathlib.Core.Path.{_≡_};
 ghost use mathlib.Core.Bool.{cond};
 ghost use Rattle.semantics.specs.Narrow.{bitsAboveKind};
 ghost use Rattle.semantics.specs.Wide.{wideBitsAboveKind};
 ghost use Rattle.semantics.specs.Widths.{widthOf};
+use crate::low_8;
 use crate::low_16;
-use crate::narrow::narrow_above_kind;
 use crate::narrow::narrow_total;
-use crate::narrow::operation_key;
-use crate::narrow::operation_kind;
-use crate::wide::wide_above_kind;
-use crate::wide::wide_kind;
-use crate::wide::wide_operation_key;
 use crate::wide::wide_total;
 use semantics::Total;
 
@@ -20,27 +15,27 @@ pub fn above_kind(operation: u64, flagged: bool) -> u32
     ensures { λ r. ⌜ r ≡ cond flagged (wideBitsAboveKind operation) (bitsAboveKind operation) ⌝ }
 {
     if flagged {
-        return wide_above_kind(operation);
+        return (operation >> 57) as u32;
     }
-    narrow_above_kind(operation)
+    (operation >> 40) as u32
 }
 
 pub fn kind_in(operation: u64, flagged: bool) -> u8
     ensures { λ r. ⌜ r ≡ widthOf flagged .kindBits operation ⌝ }
 {
     if flagged {
-        return wide_kind(operation);
+        return low_8(operation >> 49);
     }
-    operation_kind(operation)
+    low_8(operation >> 32)
 }
 
 pub fn key_in(operation: u64, flagged: bool) -> u16
     ensures { λ r. ⌜ r ≡ widthOf flagged .operationKey operation ⌝ }
 {
     if flagged {
-        return wide_operation_key(operation);
+        return low_16(operation >> 33);
     }
-    operation_key(operation)
+    low_16(operation >> 16)
 }
 
 // The total of a cell or of an answer, or the amount of an operation: all three lie in the lowest bits.

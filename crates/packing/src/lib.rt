@@ -10,8 +10,8 @@ pub mod narrow; // narrow.rt: cells and answers of 32 bits, and their operations
 pub mod wide; // wide.rt: cells and answers of 64 bits with a flag, and their operations
 pub mod either; // either.rt: the fields that both widths have, by a flag
 
-// The lowest eight, sixteen and thirty-two bits of a word, by a mask: what lies above is shifted off
-// first, by the layouts of either width.
+// The lowest eight and sixteen bits of a word, by a mask: what lies below a field is shifted off first, by
+// the layouts of either width.
 pub fn low_8(w: u64) -> u8
     ensures { λ r. ⌜ r ≡ w % 256 ⌝ }
 {
@@ -24,22 +24,9 @@ pub fn low_16(w: u64) -> u16
     (w & 0xffff) as u16
 }
 
-pub(crate) fn low_32(w: u64) -> u32
-    ensures { λ r. ⌜ r ≡ w % 4294967296 ⌝ }
-{
-    (w & 0xffffffff) as u32
-}
-
-// Whether a key is live, at the width of the load module's keys: 0 is the key of an empty cell, and
-// 65,535 that of a tombstone.
-pub fn is_live(key: u32) -> bool
-    ensures { λ r. ⌜ r ≡ isLiveKey key ⌝ }
-{
-    0 < key && key < 65535
-}
-
+// Whether a key is live: 0 is the key of an empty cell, and 65,535 that of a tombstone.
 pub fn is_live_key(k: u16) -> bool
     ensures { λ r. ⌜ r ≡ isLiveKey k ⌝ }
 {
-    is_live(k as u32)
+    0 < k && k < 65535
 }

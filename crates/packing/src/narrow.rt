@@ -2,10 +2,8 @@
 // total, an answer its code, and an operation, the document's row, a kind in eight bits above what lies as
 // a cell does.
 ghost use mathlib.Core.Path.{_≡_};
-ghost use Rattle.semantics.specs.Narrow.{narrow, upperHalf, lowerHalf, joined, keyOf, totalBits, cellWord, packedAnswer, kindBits, bitsAboveKind, operationKey, operationWord};
-use crate::low_8;
+ghost use Rattle.semantics.specs.Narrow.{narrow, joined, keyOf, totalBits, cellWord, packedAnswer, operationWord};
 use crate::low_16;
-use crate::low_32;
 use semantics::Total;
 
 // The word of a tombstone: key 65,535 with total 0.
@@ -21,19 +19,8 @@ pub fn narrow_total(bits: u16) -> Total
     }
 }
 
-// Sixteen bits above sixteen: the layout of a cell and of an answer.
-fn upper_half(w: u32) -> u16
-    ensures { λ r. ⌜ r ≡ upperHalf w ⌝ }
-{
-    (w >> 16) as u16
-}
-
-fn lower_half(w: u32) -> u16
-    ensures { λ r. ⌜ r ≡ lowerHalf w ⌝ }
-{
-    low_16(w as u64)
-}
-
+// Sixteen bits above sixteen: the layout of a cell, of an answer, and of what lies below the kind of an
+// operation.
 fn joined(upper: u16, lower: u16) -> u32
     ensures { λ r. ⌜ r ≡ joined upper lower ⌝ }
 {
@@ -44,13 +31,13 @@ fn joined(upper: u16, lower: u16) -> u32
 pub fn cell_key(w: u32) -> u16
     ensures { λ r. ⌜ r ≡ keyOf w ⌝ }
 {
-    upper_half(w)
+    (w >> 16) as u16
 }
 
 pub fn cell_total(w: u32) -> u16
     ensures { λ r. ⌜ r ≡ totalBits w ⌝ }
 {
-    lower_half(w)
+    low_16(w as u64)
 }
 
 pub fn cell_word(key: u16, total: u16) -> u32
@@ -67,27 +54,8 @@ pub fn answer_word(code: u8, total: u16) -> u32
 }
 
 // An operation: its kind above its key and its amount.
-pub(crate) fn narrow_above_kind(w: u64) -> u32
-    ensures { λ r. ⌜ r ≡ bitsAboveKind w ⌝ }
-{
-    (w >> 40) as u32
-}
-
-pub(crate) fn operation_kind(w: u64) -> u8
-    ensures { λ r. ⌜ r ≡ kindBits w ⌝ }
-{
-    low_8(w >> 32)
-}
-
-// What lies below the kind is the word of a cell.
-pub(crate) fn operation_key(w: u64) -> u16
-    ensures { λ r. ⌜ r ≡ operationKey w ⌝ }
-{
-    cell_key(low_32(w))
-}
-
 pub fn operation_word(kind: u8, key: u16, amount: u16) -> u64
     ensures { λ r. ⌜ r ≡ operationWord kind key amount ⌝ }
 {
-    ((kind as u64) << 32) | (cell_word(key, amount) as u64)
+    ((kind as u64) << 32) | (joined(key, amount) as u64)
 }

@@ -3,10 +3,7 @@
 use semantics::Total;
 ghost use mathlib.Core.Path.{_≡_};
 ghost use Prim.Native.Nat.{_^_, _<_};
-ghost use Rattle.semantics.specs.Wide.{flaggedBits, flaggedIn, wideKeyOf, strayBits, wideCellWord, wideOperationKey, wideKindBits, wideBitsAboveKind, wideOperationWord, wideAnswerCode, widePackedAnswer};
-use crate::low_8;
-use crate::low_16;
-use crate::low_32;
+ghost use Rattle.semantics.specs.Wide.{flaggedBits, flaggedIn, wideKeyOf, wideCellWord, wideOperationWord, widePackedAnswer};
 
 // The word of a tombstone: key 65,535 with total 0.
 pub const WIDE_TOMBSTONE: u64 = 65535 << 48;
@@ -16,7 +13,7 @@ pub fn wide_total(w: u64) -> Total
     ensures { λ r. ⌜ r ≡ flaggedIn w ⌝ }
 {
     Total {
-        amount: low_32(w),
+        amount: (w & 0xffffffff) as u32,
         saturated: (w >> 32) & 1 == 1,
     }
 }
@@ -28,18 +25,11 @@ fn flagged_bits(t: Total) -> u64
     ((t.saturated as u64) << 32) | (t.amount as u64)
 }
 
-// A cell: its key in the highest sixteen bits, and fifteen that are 0 in an allowed cell between key and
-// flag.
+// A cell: its key in the highest sixteen bits. The fifteen between key and flag are 0 in an allowed one.
 pub fn wide_key(w: u64) -> u16
     ensures { λ r. ⌜ r ≡ wideKeyOf w ⌝ }
 {
     (w >> 48) as u16
-}
-
-pub fn stray_bits(w: u64) -> u16
-    ensures { λ r. ⌜ r ≡ strayBits w ⌝ }
-{
-    ((w >> 33) & 0x7fff) as u16
 }
 
 pub fn wide_cell_word(key: u16, total: Total) -> u64
@@ -50,24 +40,6 @@ pub fn wide_cell_word(key: u16, total: Total) -> u64
 
 // An operation: its kind above its key above its amount. The bits above the kind are 0 in an allowed
 // one.
-pub(crate) fn wide_above_kind(w: u64) -> u32
-    ensures { λ r. ⌜ r ≡ wideBitsAboveKind w ⌝ }
-{
-    (w >> 57) as u32
-}
-
-pub(crate) fn wide_kind(w: u64) -> u8
-    ensures { λ r. ⌜ r ≡ wideKindBits w ⌝ }
-{
-    low_8(w >> 49)
-}
-
-pub(crate) fn wide_operation_key(w: u64) -> u16
-    ensures { λ r. ⌜ r ≡ wideOperationKey w ⌝ }
-{
-    low_16(w >> 33)
-}
-
 pub fn wide_operation_word(kind: u8, key: u16, amount: Total) -> u64
     ensures { λ r. ⌜ r ≡ wideOperationWord kind key amount ⌝ }
 {
@@ -75,12 +47,6 @@ pub fn wide_operation_word(kind: u8, key: u16, amount: Total) -> u64
 }
 
 // An answer: its code lies where the key of an operation does.
-pub fn wide_answer_code(answer: u64) -> u32
-    ensures { λ r. ⌜ r ≡ wideAnswerCode answer ⌝ }
-{
-    (answer >> 33) as u32
-}
-
 pub fn wide_answer_word(code: u8, total: Total) -> u64
     ensures { λ r. ⌜ r ≡ widePackedAnswer code total ⌝ }
 {

@@ -11,7 +11,6 @@ ghost use Rattle.semantics.specs.RunFile.{narrowFile, reading};
 ghost use Rattle.semantics.specs.Text.{handed};
 use hash::home;
 use hash::size_allowed;
-use packing::is_live;
 use packing::narrow::narrow_total;
 use rules::effect::plus;
 use semantics::Loaded;
@@ -19,14 +18,16 @@ use semantics::Outcome;
 use semantics::Written;
 
 // The home of a key in c cells, or 65,535 where c or the key is not allowed.
-// Both are judged first, so the key has sixteen bits.
+// Both are judged first, so the key is 1 to 65,534 and has sixteen bits.
 #[no_mangle]
 pub extern "C" fn room_home(key: u32, c: u32) -> u32
     ensures { λ r. ⌜ r ≡ roomHome key c ⌝ }
 {
     if size_allowed(c as usize) {
-        if is_live(key) {
-            return home(key as u16, c);
+        if 0 < key {
+            if key < 65535 {
+                return home(key as u16, c);
+            }
         }
     }
     65535

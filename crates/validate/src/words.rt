@@ -54,10 +54,11 @@ fn cell_allowed(w: u32) -> bool
     w == packing::narrow::TOMBSTONE
 }
 
+// A wide cell likewise; and the fifteen bits between its key and its flag are 0, and its total is a wide one.
 fn wide_cell_allowed(w: u64) -> bool
     ensures { λ r. ⌜ r ≡ wideCellAllowed w ⌝ }
 {
-    if packing::wide::stray_bits(w) == 0 {
+    if (w >> 33) & 0x7fff == 0 {
         let total = packing::wide::wide_total(w);
         if is_wide_total(total) {
             if packing::is_live_key(packing::wide::wide_key(w)) {

@@ -6,24 +6,23 @@ use borrow.Author.Needs.{needs}
 use Rattle.packing.proofs.either.key_in.Statement.{statement}
 use Rattle.packing.proofs.either.key_in.Tie as tie
 
-wide-operation-key-requires : tie.Need-wide-operation-key-requires
-wide-operation-key-requires c κs = search needs
+low-16-requires : tie.Need-low-16-requires
+low-16-requires c κs = search needs
 
 returns : tie.Need-returns
 returns c =
     let test = c .before in
     let w = test .before .args .operation in
-    if-wide (λ (W : Width). W .operationKey w) (test .if1 .taken) (c .wide-operation-key .ensures)
+    if-wide (λ (W : Width). W .operationKey w) (test .if1 .taken) (c .low-16 .ensures)
 
-operation-key-requires : tie.Need-operation-key-requires
-operation-key-requires c κs = search needs
+low-16-requires-2 : tie.Need-low-16-requires-2
+low-16-requires-2 c κs = search needs
 
 returns-2 : tie.Need-returns-2
 returns-2 c =
     let test = c .before in
     let w = test .before .args .operation in
-    if-narrow (λ (W : Width). W .operationKey w) (test .if1 .left) (c .operation-key .ensures)
+    if-narrow (λ (W : Width). W .operationKey w) (test .if1 .left) (c .low-162 .ensures)
 
 pub key-in-spec : {M : Type 1} → statement M
-key-in-spec =
-    tie.close (tie.spec wide-operation-key-requires returns operation-key-requires returns-2)
+key-in-spec = tie.close (tie.spec low-16-requires returns low-16-requires-2 returns-2)

@@ -6,23 +6,23 @@ use borrow.Author.Needs.{needs}
 use Rattle.packing.proofs.either.kind_in.Statement.{statement}
 use Rattle.packing.proofs.either.kind_in.Tie as tie
 
-wide-kind-requires : tie.Need-wide-kind-requires
-wide-kind-requires c κs = search needs
+low-8-requires : tie.Need-low-8-requires
+low-8-requires c κs = search needs
 
 returns : tie.Need-returns
 returns c =
     let test = c .before in
     let w = test .before .args .operation in
-    if-wide (λ (W : Width). W .kindBits w) (test .if1 .taken) (c .wide-kind .ensures)
+    if-wide (λ (W : Width). W .kindBits w) (test .if1 .taken) (c .low-8 .ensures)
 
-operation-kind-requires : tie.Need-operation-kind-requires
-operation-kind-requires c κs = search needs
+low-8-requires-2 : tie.Need-low-8-requires-2
+low-8-requires-2 c κs = search needs
 
 returns-2 : tie.Need-returns-2
 returns-2 c =
     let test = c .before in
     let w = test .before .args .operation in
-    if-narrow (λ (W : Width). W .kindBits w) (test .if1 .left) (c .operation-kind .ensures)
+    if-narrow (λ (W : Width). W .kindBits w) (test .if1 .left) (c .low-82 .ensures)
 
 pub kind-in-spec : {M : Type 1} → statement M
-kind-in-spec = tie.close (tie.spec wide-kind-requires returns operation-kind-requires returns-2)
+kind-in-spec = tie.close (tie.spec low-8-requires returns low-8-requires-2 returns-2)

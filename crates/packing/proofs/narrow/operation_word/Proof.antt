@@ -8,8 +8,8 @@ use Rattle.packing.proofs.Packed.{packed}
 use Rattle.packing.proofs.narrow.operation_word.Statement.{statement}
 use Rattle.packing.proofs.narrow.operation_word.Tie as tie
 
-cell-word-requires : tie.Need-cell-word-requires
-cell-word-requires c κs = search needs
+joined-requires : tie.Need-joined-requires
+joined-requires c κs = search needs
 
 cast-result : tie.Need-cast-result
 cast-result c = search needs
@@ -18,4 +18,4 @@ returns : tie.Need-returns
 returns c = packed 8 32 64 (c .before .fits .kind .fits) (omega arith) (lit≤ tt) ∙ omega arith
 
 pub operation-word-spec : {M : Type 1} → statement M
-operation-word-spec = tie.close (tie.spec cell-word-requires cast-result returns)
+operation-word-spec = tie.close (tie.spec joined-requires cast-result returns)

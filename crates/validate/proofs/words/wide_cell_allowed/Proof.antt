@@ -1,7 +1,9 @@
--- `validate::words::wide_cell_allowed` meets its contract, field by field.
+-- `validate::words::wide_cell_allowed` meets its contract, field by field; the mask of the stray bits is 2 ^ 15 - 1.
 -- Assumes nothing.
 use mathlib.Core.Path.{_≡_, sym, ap, _∙_}
 use mathlib.Core.Bool.{Bool, and-false, _&&_, _||_}
+use Prim.Native.Nat.{_/_, _^_}
+use lib.Bits.{and-mask}
 use borrow.Author.Tests.{eq-eqb, ne-eqb}
 use borrow.Author.Needs.{needs}
 use Rattle.semantics.specs.Wide.{isWideTotal, isNothing, wideCellAllowed}
@@ -11,7 +13,7 @@ use Rattle.validate.proofs.words.wide_cell_allowed.Tie as tie
 
 -- the contexts that the facts look back to
 abbrev start : tie.Then1 → tie.Start
-start c = c .before .before
+start c = c .before
 
 abbrev after-wide-total-of-else2 : tie.Else2 → tie.After-wide-total
 after-wide-total-of-else2 c = c .before .before
@@ -36,12 +38,9 @@ judged c e =
     let then = then2 c in
     let none = stray then in
     let total = after-wide-total-of-then2 then in
-    cell-judged (start none .fits .w .fits) (none .before .stray-bits .ensures) (total .wide-total .ensures) (c .before .wide-key .ensures)
+    cell-judged (start none .fits .w .fits) (and-mask (start none .args .w / 2 ^ 33) 15) (total .wide-total .ensures) (c .before .wide-key .ensures)
     ∙ (λ i. eq-eqb _ 0 (none .if1 .taken) i && (sym (then .before .is-wide-total .ensures) ∙ then .if2 .taken) i
     && ((sym (c .is-live-key .ensures) ∙ e) i || isNothing (total .wide-total .result)))
-
-stray-bits-requires : tie.Need-stray-bits-requires
-stray-bits-requires c κs = search needs
 
 wide-total-requires : tie.Need-wide-total-requires
 wide-total-requires c κs = search needs
@@ -72,13 +71,12 @@ returns-3 c =
 
 returns-4 : tie.Need-returns-4
 unfolding wideCellAllowed
-returns-4 c = rw (ne-eqb _ 0 (λ e. c .if1 .left (c .before .stray-bits .ensures ∙ e)))
+returns-4 c = rw (ne-eqb _ 0 (λ e. c .if1 .left (and-mask (c .before .args .w / 2 ^ 33) 15 ∙ e)))
 
 pub wide-cell-allowed-spec : {M : Type 1} → statement M
 wide-cell-allowed-spec =
     tie.close
     (tie.spec
-    stray-bits-requires
     wide-total-requires
     is-wide-total-requires
     wide-key-requires
