@@ -1,24 +1,26 @@
 -- Two slices of which one is empty: what is read and stored in them, slice by slice; and, where they have words of one width alone, by that
 -- width.
 -- Assumes nothing.
-use mathlib.Core.Path.{_≡_, refl, sym, ap, ap₂, subst, _∙_}
+use mathlib.Core.Path.{_≡_, refl, sym, ap, ap₂, _∙_}
 use Prim.Native.Nat.{ℕ, _+_, _-_, _%_, _≤_, _<_, min}
 use mathlib.Core.Bool.{Bool, true, false, cond}
 use mathlib.Core.List.{List, []}
 use mathlib.Core.Option.{some}
 use native.Mathlib.Decide.{decLt}
 use native.Mathlib.Omega.{arith}
-use lib.Dec.{T, ltb}
-use lib.ListN.{length, getD, set, replicate, length-replicate, replicate-append-replicate}
+use lib.Dec.{T}
+use lib.ListN.{length, getD, set, replicate, length-replicate, replicate-append-replicate, List·getD-eq-default}
+use lib.Seq.{set-out}
 use borrow.Author.Tests.{lt-ltb, le-ltb}
 use Rattle.semantics.specs.declared.Total.{Total}
 use Rattle.semantics.specs.Cells.{Cell, empty, tombstone, live, Answer, found, present, changed, removed, inserted, absent, full, codeOf, totalOf}
-use Rattle.semantics.specs.Words.{Width, nothing, carried, encode, answerWord}
-use Rattle.semantics.specs.Narrow.{narrowCeiling, cellWord, packedAnswer, narrowWidth}
+use Rattle.semantics.specs.Words.{nothing, carried, encode, answerWord}
+use Rattle.semantics.specs.Narrow.{cellWord, packedAnswer, narrowWidth}
 use Rattle.semantics.specs.Wide.{wideCellWord, widePackedAnswer, wideWidth}
 use Rattle.semantics.specs.Widths.{widthOf}
 use Rattle.semantics.specs.Run.{over}
-use Rattle.semantics.proofs.Lent.{lent-narrow, lent-wide}
+use Rattle.semantics.specs.Lent.{lent}
+use Rattle.semantics.proofs.Lent.{lent-size, lent-narrow, lent-wide}
 use Rattle.semantics.proofs.Over.{over-none, over-length, over-next}
 use Rattle.semantics.proofs.Narrow.{total-small}
 use Rattle.semantics.proofs.Words.{Packs}
@@ -40,6 +42,13 @@ module _ (l : Lent) (at : ℕ) where
   unfolding cellAt
   cell-wide b h e = e ∙ sym (lent-wide (cellIn narrowWidth) (cellIn wideWidth) (l .narrow) (l .wide) at _ b (omega arith))
 
+  pub cell-past : length (l .narrow) + length (l .wide) ≤ at → record { key = 0; total = nothing } ≡ cellAt l at
+  unfolding cellAt
+  cell-past b =
+      let f = cellIn narrowWidth in
+      let g = cellIn wideWidth in
+      sym (List·getD-eq-default (lent f g (l .narrow) (l .wide)) _ (omega (arith, lent-size f g (l .narrow) (l .wide))))
+
   module _ (thin fat : ℕ) where
     abbrev chosen : Bool → Lent
     chosen z = cond z (record { narrow = set (l .narrow) at thin; wide = l .wide }) (record { narrow = l .narrow; wide = set (l .wide) (at - length (l .narrow)) fat })
@@ -51,6 +60,10 @@ module _ (l : Lent) (at : ℕ) where
     pub placed-wide : length (l .narrow) ≤ at → placed l at thin fat ≡ record { narrow = l .narrow; wide = set (l .wide) (at - length (l .narrow)) fat }
     unfolding placed
     placed-wide b = ap chosen (le-ltb at (length (l .narrow)) b)
+
+    pub placed-past : length (l .narrow) + length (l .wide) ≤ at → placed l at thin fat ≡ l
+    placed-past b =
+        placed-wide (omega arith) ∙ (λ i. record { narrow = l .narrow; wide = set-out (l .wide) (at - length (l .narrow)) fat (omega arith) i })
 
 -- what the code packs, of the values that are left
 pub stored-is : (l : Lent) (at : ℕ) (left : Left) → left .stores ≡ true → {low thin fat : ℕ} {l′ : Lent} → low ≡ left .cell .total .amount % 65536
@@ -76,7 +89,7 @@ pub cleared-none : (l : Lent) → l ≡ cleared l 0
 unfolding cleared
 cleared-none l =
     let none : 0 ≡ min 0 (length (l .narrow)) = omega arith in
-    let more : 0 ≡ 0 - length (l .narrow) = omega arith in
+    let more : 0 ≡ min (0 - length (l .narrow)) (length (l .wide)) = omega arith in
     let narrow = sym (over-none (l .narrow)) in
     let wide = sym (over-none (l .wide)) in
     (λ i. record { narrow = narrow i; wide = wide i })
@@ -89,10 +102,10 @@ cleared-narrow l n =
     let m : ℕ = min n (length (l .narrow)) in
     over-length (replicate m 0) (l .narrow) (omega (arith, length-replicate {A = ℕ} m 0))
 
-pub cleared-wide : (l : Lent) (n : ℕ) → n ≤ length (l .narrow) + length (l .wide) → length (cleared l n .wide) ≡ length (l .wide)
+pub cleared-wide : (l : Lent) (n : ℕ) → length (cleared l n .wide) ≡ length (l .wide)
 unfolding cleared
-cleared-wide l n b =
-    let m : ℕ = n - length (l .narrow) in
+cleared-wide l n =
+    let m : ℕ = min (n - length (l .narrow)) (length (l .wide)) in
     over-length (replicate m 0) (l .wide) (omega (arith, length-replicate {A = ℕ} m 0))
 
 zero-more : (old : List ℕ) (i : ℕ) → i < length old → set (over (replicate i 0) old) i 0 ≡ over (replicate (i + 1) 0) old
@@ -112,9 +125,12 @@ cleared-more l n b = elim (decLt n (length (l .narrow))) [ yes h ↦ here h | no
     c : ℕ
     c = length (l .narrow)
 
+    d : ℕ
+    d = length (l .wide)
+
     here : n < c → placed (cleared l n) n 0 0 ≡ cleared l (n + 1)
     here h =
-        let same : n - c ≡ n + 1 - c = omega arith in
+        let same : min (n - c) d ≡ min (n + 1 - c) d = omega arith in
         let more = zero-next (l .narrow) n {m = min n c} {next = min (n + 1) c} (omega arith) refl (omega arith) h in
         placed-narrow (cleared l n) n 0 0 (omega (arith, cleared-narrow l n)) ∙ (λ i. record { narrow = more i; wide = over (replicate (same i) 0) (l .wide) })
 
@@ -122,8 +138,16 @@ cleared-more l n b = elim (decLt n (length (l .narrow))) [ yes h ↦ here h | no
     past h =
         let same : min n c ≡ min (n + 1) c = omega arith in
         let at : n - length (cleared l n .narrow) ≡ n - c = omega (arith, cleared-narrow l n) in
-        let more = zero-next (l .wide) (n - c) {next = n + 1 - c} refl at (omega arith) (omega arith) in
+        let more = zero-next (l .wide) (n - c) {m = min (n - c) d} {next = min (n + 1 - c) d} (omega arith) at (omega arith) (omega arith) in
         placed-wide (cleared l n) n 0 0 (omega (arith, cleared-narrow l n)) ∙ (λ i. record { narrow = over (replicate (same i) 0) (l .narrow); wide = more i })
+
+-- and no more once all are
+pub cleared-all : (l : Lent) (m n : ℕ) → length (l .narrow) + length (l .wide) ≤ m → m ≤ n → cleared l n ≡ cleared l m
+unfolding cleared
+cleared-all l m n all more =
+    let narrow : min n (length (l .narrow)) ≡ min m (length (l .narrow)) = omega arith in
+    let wide : min (n - length (l .narrow)) (length (l .wide)) ≡ min (m - length (l .narrow)) (length (l .wide)) = omega arith in
+    ap₂ (λ (i j : ℕ). record { narrow = over (replicate i 0) (l .narrow); wide = over (replicate j 0) (l .wide) }) narrow wide
 
 -- words of one width alone
 pub laid : (flagged : Bool) (l : Lent) → othersIn flagged l ≡ [] → l ≡ laidIn flagged (wordsIn flagged l)
@@ -204,9 +228,9 @@ pub cleared-laid : (flagged : Bool) (words : List ℕ) (n : ℕ) → n ≤ lengt
 unfolding cleared over
 cleared-laid false words n b =
     let all : min n (length words) ≡ n = omega arith in
-    let none : n - length words ≡ 0 = omega arith in
+    let none : min (n - length words) 0 ≡ 0 = omega arith in
     ap₂ (λ (m k : ℕ). record { narrow = over (replicate m 0) words; wide = over (replicate k 0) [] }) all none
 cleared-laid true words n b =
     let none : min n 0 ≡ 0 = omega arith in
-    let all : n - 0 ≡ n = omega arith in
+    let all : min (n - 0) (length words) ≡ n = omega arith in
     ap₂ (λ (m k : ℕ). record { narrow = over (replicate m 0) []; wide = over (replicate k 0) words }) none all

@@ -4,7 +4,7 @@
 use mathlib.Core.Path.{_≡_, refl, sym, ap, ap₂, subst, _∙_}
 use Prim.Native.Nat.{ℕ, suc, _+_, _%_, _≤_, _<_}
 use mathlib.Core.Bool.{Bool, true, false, cond, _||_}
-use mathlib.Core.List.{List, [], _∷_, map, map-map, foldl}
+use mathlib.Core.List.{List, [], _∷_, map, map-map}
 use mathlib.Core.Option.{none, some}
 use native.Mathlib.Nat.{add-zero, mod-lt, mod-eq-of-lt}
 use native.Mathlib.Omega.{arith}
@@ -20,7 +20,7 @@ use Rattle.semantics.specs.Step.{Turn, passes, holds, loses, finishes, Pending,
 use Rattle.semantics.specs.Step.{step, passed, placeOf, taken, entry, answered, answerIn, finishedIn, doneCount, logged, countLost}
 use Rattle.semantics.specs.Step as rules
 use Rattle.semantics.specs.Sets.{isIn, including}
-use Rattle.semantics.specs.Words.{Width, carried, encode, decode, decodeOperation, answerWord, settingOf, isKind, homeIn, scaledHome}
+use Rattle.semantics.specs.Words.{Width, carried, encode, decode, decodeOperation, answerWord, settingOf, isKind, homeIn}
 use Rattle.semantics.specs.Widths.{widthOf}
 use Rattle.semantics.specs.Refusals.{Call}
 use Rattle.semantics.specs.Run.{over, machine, answerOf, outcomeOf, acceptedResult}
@@ -40,16 +40,15 @@ use Rattle.hash.proofs.Powers.{home-is as scaled-is}
 use Rattle.rules.specs.declared.effect.Operation.{Operation as OperationParts}
 use Rattle.rules.specs.declared.effect.Cell.{Cell as CellParts}
 use Rattle.rules.specs.Values.{operationOf, cellOf, cellParts, answerParts}
-use Rattle.rules.specs.declared.turn.Left.{Left}
 use Rattle.rules.specs.Turn.{turnParts, stores, leftBy}
 use Rattle.step.specs.declared.Record.{Record}
 use Rattle.step.specs.declared.Stepped.{Stepped}
 use Rattle.step.specs.Record.{begun, stepTaken}
-use Rattle.step.proofs.Represents.{recordOf, record-at, record-passed, step-is, kept-cell}
+use Rattle.step.proofs.Represents.{recordOf, record-at, step-is, kept-cell}
 use Rattle.entry.specs.Lent.{Lent, laidIn, wordsIn, cellIn, operationIn, cellAt, withCell, withAnswer}
 use Rattle.entry.specs.First.{blank, atHome, firstRecords}
-use Rattle.entry.specs.Entry.{Standing, told, storedBy, afterEntry}
-use Rattle.entry.proofs.Lent.{laid-words, laid-slices, cell-laid, with-cell-laid, with-answer-laid, laid-long}
+use Rattle.entry.specs.Entry.{Standing, told, storedBy, stepAt, afterEntry}
+use Rattle.entry.proofs.Lent.{laid-words, laid-slices, cell-laid, with-cell-laid, with-answer-laid}
 
 -- the record of a row, in c cells
 abbrev rowRecord : ℕ → Row Total → Record
@@ -173,9 +172,6 @@ module _ (flagged : Bool) {call : Call} (ok : Passed (widthOf flagged) call) whe
     cells-long : length (map (encode W) (m .cells)) ≡ c
     cells-long = length-map (m .cells) (encode W) ∙ packs .long
 
-    pub table-long : length (table .narrow) + length (table .wide) ≡ c
-    table-long = laid-long flagged (map (encode W) (m .cells)) (H .table-is) ∙ cells-long
-
     rows-long : length (m .rows) ≡ n
     rows-long = hold.same-length P call ok (take k (call .schedule))
 
@@ -189,9 +185,6 @@ module _ (flagged : Bool) {call : Call} (ok : Passed (widthOf flagged) call) whe
     pub answers-slices : n ≤ length answers₀ → (words : List ℕ) {l : Lent} → l ≡ laidIn flagged words → length answers₀ ≡ length words
         → (length (answers .narrow) ≡ length (l .narrow)) × (length (answers .wide) ≡ length (l .wide))
     answers-slices h words e same = laid-slices flagged _ words (H .answers-are) e (written-long h ∙ same)
-
-    pub answers-long : n ≤ length answers₀ → length (answers .narrow) + length (answers .wide) ≡ length answers₀
-    answers-long h = laid-long flagged (over (map (answerOf W) (m .rows)) answers₀) (H .answers-are) ∙ written-long h
 
     pub log-long : n ≤ length log₀ → length log ≡ length log₀
     unfolding doneCount
@@ -306,9 +299,6 @@ module _ (flagged : Bool) {call : Call} (ok : Passed (widthOf flagged) call) whe
         at-is : getD records i z .at ≡ place
         at-is = ap (λ (r : Record). r .at) record-is ∙ record-at c (o .key) (W .ceiling) s
 
-        pub at-inside : getD records i z .at < length (table .narrow) + length (table .wide)
-        at-inside = omega (arith, at-is, inside, table-long)
-
         -- the cell that it reads
         abbrev seen : CellParts
         seen = cellAt table (getD records i z .at)
@@ -335,12 +325,6 @@ module _ (flagged : Bool) {call : Call} (ok : Passed (widthOf flagged) call) whe
             within (reading p) h = h
             within (holding p w) h = h .0
 
-        pub at-below : getD records i z .at < c
-        at-below = omega (arith, at-is, inside)
-
-        pub passed-below : getD records i z .passed < c
-        passed-below = omega (arith, ap (λ (r : Record). r .passed) record-is ∙ record-passed c (o .key) (W .ceiling) s, passes-on)
-
         -- what its step leaves
         abbrev result : Stepped
         result = stepTaken (W .ceiling) c operation (getD records i z) seen
@@ -352,7 +336,7 @@ module _ (flagged : Bool) {call : Call} (ok : Passed (widthOf flagged) call) whe
             ∙ ap (λ (y : Cell Total). record { left = leftBy s seen (step S o s y); progress = recordOf c (o .key) (after (passed S s) (step S o s y .turn)) }) seen-is
 
         -- there is room in the log, since row i is not in it
-        pub room : n ≤ length log₀ → ones finished < length log₀
+        room : n ≤ length log₀ → ones finished < length log₀
         unfolding doneCount finishedIn answerIn
         room fits =
             let open-row : isSome (answered (row .state)) ≡ false = sym (ap (λ x. isSome (answerIn x)) row-at) ∙ sym (H .finished-are i) ∙ unfinished in
@@ -491,8 +475,8 @@ module _ (flagged : Bool) {call : Call} (ok : Passed (widthOf flagged) call) whe
             ∙ ap (λ (l : List ℕ). over l answers₀) (sym (map-set (answerOf W) (m .rows) i (row-then (finishes a)))))
 
         -- so an entry leaves what `afterEntry` says
-        pub at-entry : n ≤ length answers₀ → n ≤ length log₀ → {q : Standing} → afterEntry (W .ceiling) c operation i standing ≡ q → Then q
-        unfolding afterEntry told turnParts leftBy after answered logged countLost
+        pub at-entry : n ≤ length answers₀ → n ≤ length log₀ → {q : Standing} → afterEntry flagged c (getD (call .operations) i 0) i standing ≡ q → Then q
+        unfolding afterEntry stepAt told turnParts leftBy after answered logged countLost
         at-entry wide-enough long-enough is = subst Then is (subst Then (sym (ap (λ (r : Stepped). told (r .left .turn) i stored) result-is)) (go (stepped .turn) refl))
           where
             go : (t : Turn Total) → stepped .turn ≡ t → Then (told (turnParts t) i stored)

@@ -1,4 +1,4 @@
--- An aid, not to be believed: it stands in contracts of private functions alone.
+-- Must be believed of the promises of entry alone: what `run` and `report` promise rests on semantics/specs.
 -- A table, or its answers, as the run is lent them: as two slices, of narrow words and of wide ones, of which one is empty.
 -- Assumes nothing.
 use mathlib.Core.Path.{_≡_}
@@ -59,9 +59,13 @@ withCell l at x = placed l at (cellWord (x .key) (x .total .amount % 65536)) (wi
 unfoldable pub withAnswer : Lent → ℕ → Answer → Lent
 withAnswer l at a = placed l at (packedAnswer (a .code % 256) (a .total .amount % 65536)) (widePackedAnswer (a .code % 256) (a .total))
 
--- the first n words set to 0: "all answers written as 0"
+-- the first n words set to 0, as many as there are of those: "all answers written as 0"
 unfoldable pub cleared : Lent → ℕ → Lent
-cleared l n = record { narrow = over (replicate (min n (length (l .narrow))) 0) (l .narrow); wide = over (replicate (n - length (l .narrow)) 0) (l .wide) }
+cleared l n =
+    record {
+      narrow = over (replicate (min n (length (l .narrow))) 0) (l .narrow);
+      wide = over (replicate (min (n - length (l .narrow)) (length (l .wide))) 0) (l .wide);
+    }
 
 -- what the run asks of the slices that it is lent, where a flag says that they are wide: they have words of that width alone, and make a call
 -- that is not turned away

@@ -10,7 +10,6 @@ use lib.ListN.{length, take, drop}
 use lib.Seq.{take-at}
 use borrow.Author.Tests.{eqb-false, ne-eqb, leb-true, leb-false}
 use Rattle.io.specs.Counts.{Counts}
-use Rattle.semantics.specs.declared.Outcome.{Outcome}
 use Rattle.semantics.specs.declared.Refusal.{Refusal}
 use Rattle.semantics.specs.declared.Total.{Total}
 use Rattle.semantics.specs.Words.{Width}
@@ -32,11 +31,10 @@ module _ (W : Width) (totalText : Total → List ℕ) where
   unfolding listed
   run-listed operations out is e = ap (λ (r : Result). handed (listed W totalText operations r) out) is ∙ e
 
-  pub refusal-listed : (number place : ℕ) (operations answers log cells : List ℕ) → (number ≡ 0 → ⊥) → {o : Outcome}
-      → o ≡ record { number = number; place = place; done = 0; lost = 0; idle = 0 } → refusalText number place ≡ listing W totalText o operations answers log cells
+  pub refusal-listed : (number place : ℕ) (operations answers log cells : List ℕ) → (number ≡ 0 → ⊥)
+      → refusalText number place ≡ listing W totalText (record { number = number; place = place; done = 0; lost = 0; idle = 0 }) operations answers log cells
   unfolding listing
-  refusal-listed number place operations answers log cells h is =
-      subst (λ (o : Outcome). refusalText number place ≡ listing W totalText o operations answers log cells) (sym is) (rw (ne-eqb number 0 h))
+  refusal-listed number place operations answers log cells h = rw (ne-eqb number 0 h)
 
 take-over : (written old : List ℕ) → take (length written) (over written old) ≡ written
 unfolding over

@@ -9,13 +9,13 @@ ghost use Rattle.semantics.specs.Run.{runResult};
 ghost use Rattle.semantics.specs.Text.{mostText, handed};
 ghost use Rattle.semantics.specs.Listing.{narrowText};
 ghost use Rattle.semantics.specs.Response.{listed, response};
-use entry::outcome::refused;
 use listing::list;
 use run::run;
 use runfile::load;
 use semantics::MOST_CELLS;
 use semantics::MOST_ENTRIES;
 use semantics::MOST_OPERATIONS;
+use semantics::Outcome;
 use semantics::Written;
 
 // Makes a run and writes its text.
@@ -60,6 +60,12 @@ pub fn report(file: &[u8], out: &mut [u8]) -> Written
             out,
         );
     }
-    let turned_away = refused(loaded.number, loaded.place);
+    let turned_away = Outcome {
+        number: loaded.number,
+        place: loaded.place,
+        done: 0,
+        lost: 0,
+        idle: 0,
+    };
     list(turned_away, &operations, &answers, &log, &cells, out)
 }

@@ -56,7 +56,7 @@ module _ (c k : ℕ) where
     record-at (reading p) = refl
     record-at (holding p h) = refl
 
-    pub record-passed : (s : Pending Total) → recordOf (pending s) .passed ≡ passed S s
+    record-passed : (s : Pending Total) → recordOf (pending s) .passed ≡ passed S s
     unfolding recordOf passed
     record-passed (reading p) = refl
     record-passed (holding p h) = refl

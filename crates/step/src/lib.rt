@@ -130,7 +130,7 @@ impl Record {
 }
 
 // The record of an operation that reads.
-fn reading(at: usize, passed: usize) -> Record
+pub fn reading(at: usize, passed: usize) -> Record
     ensures { λ r. ⌜ r ≡ readingAt at passed ⌝ }
 {
     Record {

@@ -18,14 +18,11 @@ start c = c .before .before .before .before .before .before
 abbrev after-load : tie.After-struct-known → tie.After-load
 after-load c = c .before .before .before .before
 
-abbrev after-struct-known : tie.After-refused → tie.After-struct-known
-after-struct-known c = c .before .before
-
 abbrev then1 : tie.After-run-and-list → tie.Then1
 then1 c = c .before .before .before .before .before .before .before
 
-abbrev after-refused : tie.After-list → tie.After-refused
-after-refused c = c .before .before .before .before .before .before
+abbrev else1 : tie.After-list → tie.Else1
+else1 c = c .before .before .before .before .before .before
 
 abbrev after-list : tie.After-slice-known3 → tie.After-list
 after-list c = c .before .before
@@ -88,9 +85,6 @@ unfolding Answers runOf
 returns c =
     kept _ _ _ _ (answered (after-load (then1 (after-run-and-list c) .before)) .0 (then1 (after-run-and-list c) .if1 .taken)) (after-run-and-list c .run-and-list .ensures)
 
-refused-requires : tie.Need-refused-requires
-refused-requires c κs = search needs
-
 slice-aggregate-list : tie.Need-slice-aggregate-list
 slice-aggregate-list c = search needs
 
@@ -112,9 +106,8 @@ same-length-2 c = search needs
 returns-2 : tie.Need-returns-2
 unfolding Answers
 returns-2 c =
-    let made = after-refused (after-list c) in
-    let wrong = made .before .if1 .left in
-    kept _ _ _ _ (answered (after-load (after-struct-known made)) .1 wrong ∙ refusal-listed narrowWidth narrowText _ _ _ _ _ _ wrong (made .refused .ensures))
+    let wrong = else1 (after-list c) .if1 .left in
+    kept _ _ _ _ (answered (after-load (else1 (after-list c) .before)) .1 wrong ∙ refusal-listed narrowWidth narrowText _ _ _ _ _ _ wrong)
     (after-list c .list .ensures)
 
 pub report-spec : {M : Type 1} → statement M
@@ -136,7 +129,6 @@ report-spec =
     run-and-list-requires
     same-length
     returns
-    refused-requires
     slice-aggregate-list
     slice-aggregate-list-2
     slice-aggregate-list-3

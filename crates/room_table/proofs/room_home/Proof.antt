@@ -17,6 +17,9 @@ start c = c .before .before
 abbrev then1 : tie.Then3 → tie.Then1
 then1 c = c .before .before
 
+abbrev then1-of-else3 : tie.Else3 → tie.Then1
+then1-of-else3 c = c .before .before
+
 sized : (c : tie.Then3) → sizeAllowed (start (then1 c) .args .c) ≡ true
 sized c = sym (then1 c .before .size-allowed .ensures) ∙ then1 c .if1 .taken
 
@@ -41,7 +44,7 @@ returns c = rw (sized (c .before), live (c .before)) (c .home .ensures .1 (sized
 
 returns-2 : tie.Need-returns-2
 unfolding roomHome isLiveKey
-returns-2 c = rw (le-ltb (start (c .before .before) .args .key) 65535 (c .if3 .left), and-false, and-false)
+returns-2 c = rw (le-ltb (start (then1-of-else3 c) .args .key) 65535 (c .if3 .left), and-false, and-false)
 
 returns-3 : tie.Need-returns-3
 unfolding roomHome isLiveKey

@@ -2,7 +2,7 @@
 -- Assumes nothing.
 use mathlib.Core.Path.{_≡_, refl, sym, ap, _∙_}
 use Prim.Native.Nat.{ℕ, _+_, _-_, _≤_, _<_}
-use mathlib.Core.Bool.{Bool, false}
+use mathlib.Core.Bool.{false}
 use mathlib.Core.List.{List}
 use native.Mathlib.Omega.{arith}
 use lib.ListN.{length, replicate, length-replicate, getD, take}
@@ -14,16 +14,17 @@ use Rattle.semantics.specs.Run.{over, machine}
 use Rattle.semantics.proofs.Sizes.{allowed-bounds}
 use Rattle.semantics.proofs.Start.{Passed, accepted-call}
 use Rattle.semantics.proofs.Over.{over-length}
-use Rattle.entry.specs.Lent.{Lent, laidIn, wordsIn, operationIn, cleared}
+use Rattle.entry.specs.Lent.{Lent, laidIn, wordsIn, cleared}
 use Rattle.entry.specs.Entry.{Standing, afterEntry}
 use Rattle.entry.specs.First.{firstRecords}
 use Rattle.entry.proofs.Lent.{laid, laid-long, laid-words, cleared-laid}
-use Rattle.entry.proofs.Loop.{At, at-start, table-slices, answers-slices, answers-long, log-long, at-end, at-idle, at-inside, at-below, passed-below, room, at-entry}
+use Rattle.entry.proofs.Entry.{leaves}
+use Rattle.entry.proofs.Loop.{At, at-start, table-slices, answers-slices, log-long, at-end, at-idle, at-entry}
 use Rattle.run.proofs.entries.Statement.{statement}
 use Rattle.run.proofs.entries.Tie as tie
 
 abbrev Inv-loop : tie.InvT-loop
-Inv-loop flagged narrow₀ wide₀ operations schedule answers32₀ answers64₀ log₀ c ceiling records₀ finished₀ lost₀ idle₀ k₀
+Inv-loop flagged narrow₀ wide₀ operations schedule answers32₀ answers64₀ log₀ c records₀ finished₀ lost₀ idle₀ k₀
     narrow wide answers32 answers64 log records finished lost idle k =
     let cells = wordsIn flagged (record { narrow = narrow₀; wide = wide₀ }) in
     (k ≤ length schedule)
@@ -31,7 +32,7 @@ Inv-loop flagged narrow₀ wide₀ operations schedule answers32₀ answers64₀
     (record { narrow = narrow; wide = wide }) records (record { narrow = answers32; wide = answers64 }) log finished lost idle
 
 abbrev μ-loop : tie.MeasureT-loop
-μ-loop flagged narrow₀ wide₀ operations schedule answers32₀ answers64₀ log₀ c ceiling records₀ finished₀ lost₀ idle₀ k₀
+μ-loop flagged narrow₀ wide₀ operations schedule answers32₀ answers64₀ log₀ c records₀ finished₀ lost₀ idle₀ k₀
     narrow wide answers32 answers64 log records finished lost idle k =
     length schedule - k
 
@@ -39,23 +40,29 @@ abbrev μ-loop : tie.MeasureT-loop
 abbrev start-of-slice-known5 : tie.After-slice-known5 Inv-loop μ-loop → tie.Start Inv-loop μ-loop
 start-of-slice-known5 c = c .before .before .before .before .before .before .before
 
-abbrev after-ceiling-of : tie.After-clear-answers-arg2 Inv-loop μ-loop → tie.After-ceiling-of Inv-loop μ-loop
-after-ceiling-of c = c .before .before
+abbrev clearing : tie.After-clear Inv-loop μ-loop → tie.Start Inv-loop μ-loop
+clearing c = start-of-slice-known5 (c .before .before .before)
 
-abbrev after-clear-answers : tie.After-slice-known7 Inv-loop μ-loop → tie.After-clear-answers Inv-loop μ-loop
-after-clear-answers c = c .before .before .before .before
+abbrev after-clear : tie.After-slice-known7 Inv-loop μ-loop → tie.After-clear Inv-loop μ-loop
+after-clear c = c .before .before .before .before
 
-abbrev at-loop : tie.After-made Inv-loop μ-loop → tie.At-loop Inv-loop μ-loop
+abbrev at-loop : tie.After-size Inv-loop μ-loop → tie.At-loop Inv-loop μ-loop
 at-loop c = c .before .before
 
 abbrev in-loop : tie.After-is-finished Inv-loop μ-loop → tie.In-loop Inv-loop μ-loop
 in-loop c = c .before .before
 
-abbrev else1 : tie.After-take-entry-arg5 Inv-loop μ-loop → tie.Else1 Inv-loop μ-loop
-else1 c = c .before .before .before .before .before
+abbrev else1 : tie.After-take-arg2 Inv-loop μ-loop → tie.Else1 Inv-loop μ-loop
+else1 c = c .before .before
 
-abbrev after-take-entry-arg5 : tie.After-take-entry-arg6 Inv-loop μ-loop → tie.After-take-entry-arg5 Inv-loop μ-loop
-after-take-entry-arg5 c = c .before .before
+abbrev open-entry : tie.After-take Inv-loop μ-loop → tie.Else1 Inv-loop μ-loop
+open-entry c = else1 (c .before .before .before)
+
+abbrev after-take : tie.After-settle-arg3 Inv-loop μ-loop → tie.After-take Inv-loop μ-loop
+after-take c = c .before .before .before .before .before .before .before
+
+abbrev after-settle : tie.After-progress Inv-loop μ-loop → tie.After-settle Inv-loop μ-loop
+after-settle c = c .before .before .before .before .before .before .before
 
 -- what is lent, as words of one width, and that the checks let the call pass
 abbrev table : tie.Start Inv-loop μ-loop → Lent
@@ -85,12 +92,10 @@ answers-laid c = laid (c .args .flagged) (answers c) (c .pre .answers-alone)
 table-size : (c : tie.Start Inv-loop μ-loop) → length (c .args .narrow .now) + length (c .args .wide .now) ≡ length (cells-of c)
 table-size c = laid-long (c .args .flagged) (cells-of c) (table-laid c)
 
--- the start of the function as the clearing of the answers sees it, and as the loop does; and the turn of an entry that is not idle
-abbrev clearing : tie.After-clear-answers Inv-loop μ-loop → tie.Start Inv-loop μ-loop
-clearing c = start-of-slice-known5 (after-ceiling-of (c .before) .before)
-
-abbrev clear-of : tie.After-begin Inv-loop μ-loop → tie.After-clear-answers Inv-loop μ-loop
-clear-of c = after-clear-answers (c .before)
+-- the clearing of the answers, and the start of the function, as the loop sees them; the turn of an entry that is not idle, and the entry as the
+-- store of its record sees it
+abbrev clear-of : tie.After-begin Inv-loop μ-loop → tie.After-clear Inv-loop μ-loop
+clear-of c = after-clear (c .before)
 
 abbrev start : tie.At-loop Inv-loop μ-loop → tie.Start Inv-loop μ-loop
 start c = clearing (clear-of (c .before))
@@ -98,12 +103,8 @@ start c = clearing (clear-of (c .before))
 abbrev turn : tie.Else1 Inv-loop μ-loop → tie.In-loop Inv-loop μ-loop
 turn c = in-loop (c .before)
 
--- an entry that was taken, as the store of its record sees it, and the turn that it was taken in
-abbrev taken : tie.After-progress Inv-loop μ-loop → tie.After-take-entry Inv-loop μ-loop
-taken c = c .before .before .before .before .before .before .before .before .before .before .before
-
-abbrev open-entry : tie.After-take-entry Inv-loop μ-loop → tie.Else1 Inv-loop μ-loop
-open-entry c = else1 (after-take-entry-arg5 (c .before))
+abbrev taken : tie.After-progress Inv-loop μ-loop → tie.After-take Inv-loop μ-loop
+taken c = after-take (after-settle c .before)
 
 -- where the run stands at a turn
 abbrev standing : tie.At-loop Inv-loop μ-loop → Standing
@@ -131,23 +132,23 @@ unfinished : (c : tie.Else1 Inv-loop μ-loop)
 unfinished c = sym (c .before .is-finished .ensures) ∙ c .if1 .left
 
 -- the answers as they are cleared
-abbrev cleared-answers : tie.After-clear-answers Inv-loop μ-loop → Lent
-cleared-answers c = record { narrow = c .clear-answers .last .0; wide = c .clear-answers .last .1 .0 }
+abbrev cleared-answers : tie.After-clear Inv-loop μ-loop → Lent
+cleared-answers c = record { narrow = c .clear .last .0; wide = c .clear .last .1 .0 }
 
-cleared-laid-in : (c : tie.After-clear-answers Inv-loop μ-loop)
+cleared-laid-in : (c : tie.After-clear Inv-loop μ-loop)
     → let s = clearing c in
     cleared-answers c ≡ laidIn (s .args .flagged) (over (replicate (length (s .args .operations .now)) 0) (answers-of s))
 cleared-laid-in c =
     let s = clearing c in
     let n = length (s .args .operations .now) in
-    sym (c .clear-answers .ensures) ∙ ap (λ (l : Lent). cleared l n) (answers-laid s) ∙ cleared-laid (s .args .flagged) (answers-of s) n (ok s .answers)
+    sym (c .clear .ensures) ∙ ap (λ (l : Lent). cleared l n) (answers-laid s) ∙ cleared-laid (s .args .flagged) (answers-of s) n (ok s .answers)
 
-cleared-is : (c : tie.After-clear-answers Inv-loop μ-loop)
+cleared-is : (c : tie.After-clear Inv-loop μ-loop)
     → let s = clearing c in
     wordsIn (s .args .flagged) (cleared-answers c) ≡ over (replicate (length (s .args .operations .now)) 0) (answers-of s)
 cleared-is c = let b = clearing c .args .flagged in ap (wordsIn b) (cleared-laid-in c) ∙ laid-words b _
 
-cleared-long : (c : tie.After-clear-answers Inv-loop μ-loop)
+cleared-long : (c : tie.After-clear Inv-loop μ-loop)
     → let s = clearing c in
     length (wordsIn (s .args .flagged) (cleared-answers c)) ≡ length (answers-of s)
 cleared-long c =
@@ -162,16 +163,11 @@ room-for c = omega (arith, ok (start c) .answers, cleared-long (clear-of (c .bef
 add-c : tie.Need-add-c Inv-loop μ-loop
 add-c c = record { fits = omega (arith, table-size (start-of-slice-known5 c), allowed-bounds _ (ok (start-of-slice-known5 c) .size)) }
 
-ceiling-of-requires : tie.Need-ceiling-of-requires Inv-loop μ-loop
-ceiling-of-requires c κs = search needs
-
-clear-answers-requires : tie.Need-clear-answers-requires Inv-loop μ-loop
-clear-answers-requires c κs =
-    let s = start-of-slice-known5 (after-ceiling-of c .before) in
-    omega (arith, laid-long (s .args .flagged) (answers-of s) (answers-laid s), ok s .answers)
+clear-requires : tie.Need-clear-requires Inv-loop μ-loop
+clear-requires c κs = search needs
 
 cast-begin : tie.Need-cast-begin Inv-loop μ-loop
-cast-begin c = let s = clearing (after-clear-answers c) in record { fits = omega (arith, table-size s, allowed-bounds _ (ok s .size)) }
+cast-begin c = let s = clearing (after-clear c) in record { fits = omega (arith, table-size s, allowed-bounds _ (ok s .size)) }
 
 begin-requires : tie.Need-begin-requires Inv-loop μ-loop
 begin-requires c κs = search needs
@@ -215,33 +211,25 @@ loop-again c =
 cast-i : tie.Need-cast-i Inv-loop μ-loop
 cast-i c = record { fits = omega (arith, small (turn c)) }
 
-mul-take-entry : tie.Need-mul-take-entry Inv-loop μ-loop
-mul-take-entry c = record { fits = omega (arith, small (turn (else1 c))) }
+mul-take : tie.Need-mul-take Inv-loop μ-loop
+mul-take c = record { fits = omega (arith, small (turn (else1 c))) }
 
-shared-slice-read-take-entry : tie.Need-shared-slice-read-take-entry Inv-loop μ-loop
-shared-slice-read-take-entry c = entry-below (turn (else1 (c .before)))
+shared-slice-read-take : tie.Need-shared-slice-read-take Inv-loop μ-loop
+shared-slice-read-take c = entry-below (turn (else1 (c .before)))
 
-mul-take-entry-2 : tie.Need-mul-take-entry-2 Inv-loop μ-loop
-mul-take-entry-2 c = record { fits = omega (arith, small (turn (else1 (c .before)))) }
+mul-take-2 : tie.Need-mul-take-2 Inv-loop μ-loop
+mul-take-2 c = record { fits = omega (arith, small (turn (else1 (c .before)))) }
 
-array-copy-out-take-entry : tie.Need-array-copy-out-take-entry Inv-loop μ-loop
-array-copy-out-take-entry c = small (turn (else1 (c .before)))
+array-copy-out-take : tie.Need-array-copy-out-take Inv-loop μ-loop
+array-copy-out-take c = small (turn (else1 (c .before)))
 
-take-entry-requires : tie.Need-take-entry-requires Inv-loop μ-loop
-take-entry-requires c κs =
-    let e = else1 (after-take-entry-arg5 c) in
-    let a = turn e .before in
-    let s = start a in
-    let b = s .args .flagged in
-    let o = ok s in
-    let at = a .loop .inv .1 in (
-      at-inside b o at (turn e .loop-test .taken) refl (unfinished e),
-      omega (arith, at-below b o at (turn e .loop-test .taken) refl (unfinished e), table-size s),
-      omega (arith, passed-below b o at (turn e .loop-test .taken) refl (unfinished e), table-size s),
-      omega (arith, entry-below (turn e), answers-long b o at (room-for a), room-for a),
-      omega (arith, log-long b o at (o .log), room b o at (turn e .loop-test .taken) refl (unfinished e) (o .log)),
-      omega (arith, at .few, turn e .loop-test .taken, o .short),
-    )
+take-requires : tie.Need-take-requires Inv-loop μ-loop
+take-requires c κs = search needs
+
+settle-requires : tie.Need-settle-requires Inv-loop μ-loop
+settle-requires c κs =
+    let t = turn (open-entry (after-take c)) in
+    omega (arith, t .before .loop .inv .1 .few, t .loop-test .taken, ok (start (t .before)) .short)
 
 mul-records : tie.Need-mul-records Inv-loop μ-loop
 mul-records c = record { fits = omega (arith, small (turn (open-entry (taken c)))) }
@@ -257,18 +245,19 @@ loop-again-2 c =
     let e = open-entry (taken c) in
     let a = turn e .before in
     let s = start a in
+    let b = s .args .flagged in
     let o = ok s in
-    let ceiling = after-ceiling-of (clear-of (a .before) .before) .ceiling-of .ensures in
     let size = table-size s in
-    let i = getD (s .args .schedule .now) (a .loop .k) 0 in (
+    let i = getD (s .args .schedule .now) (a .loop .k) 0 in
+    let w = getD (s .args .operations .now) i 0 in
+    let (took, stores) = taken c .take .ensures in (
       omega (arith, turn e .loop-test .taken),
-      at-entry (s .args .flagged) o (a .loop .inv .1) (turn e .loop-test .taken) refl (unfinished e) (room-for a) (o .log)
-          ((λ j. afterEntry (sym ceiling j) (sym size j) (operationIn (widthOf (s .args .flagged)) (getD (s .args .operations .now) i 0)) i (standing a))
-          ∙ taken c .take-entry .ensures (a .loop .records) refl),
+      at-entry b o (a .loop .inv .1) (turn e .loop-test .taken) refl (unfinished e) (room-for a) (o .log)
+          ((λ j. afterEntry b (sym size j) w i (standing a)) ∙ leaves b _ w i (standing a) took stores (after-settle c .settle .ensures _ _)),
     )
 
-made-requires : tie.Need-made-requires Inv-loop μ-loop
-made-requires c κs = search needs
+size-requires : tie.Need-size-requires Inv-loop μ-loop
+size-requires c κs = search needs
 
 same-length : tie.Need-same-length Inv-loop μ-loop
 same-length c = let a = at-loop c in let s = start a in table-slices (s .args .flagged) (ok s) (a .loop .inv .1) (table-laid s) .0
@@ -299,7 +288,7 @@ returns c =
     let s = start a in
     at-end (s .args .flagged) (ok s) (at .inv .1) (end .loop-test .left) (answers-of s) (cleared-is (clear-of (a .before)))
     ∙ (λ i. record {
-      outcome = sym (c .made .ensures) i;
+      outcome = record { number = 0; place = 0; done = sym (c .size .ensures) i; lost = at .lost; idle = at .idle };
       cells = wordsIn (s .args .flagged) (record { narrow = at .narrow; wide = at .wide });
       answers = wordsIn (s .args .flagged) (record { narrow = at .answers32; wide = at .answers64 });
       log = at .log;
@@ -312,8 +301,7 @@ entries-spec =
     Inv-loop
     μ-loop
     add-c
-    ceiling-of-requires
-    clear-answers-requires
+    clear-requires
     cast-begin
     begin-requires
     loop-holds
@@ -324,16 +312,17 @@ entries-spec =
     loop-less
     loop-again
     cast-i
-    mul-take-entry
-    shared-slice-read-take-entry
-    mul-take-entry-2
-    array-copy-out-take-entry
-    take-entry-requires
+    mul-take
+    shared-slice-read-take
+    mul-take-2
+    array-copy-out-take
+    take-requires
+    settle-requires
     mul-records
     array-set-from-records
     loop-less-2
     loop-again-2
-    made-requires
+    size-requires
     same-length
     same-length-2
     same-length-3

@@ -11,8 +11,8 @@ use Rattle.run.proofs.run.Statement.{statement}
 use Rattle.run.proofs.run.Tie as tie
 
 -- the contexts that the facts look back to
-abbrev after-validate : tie.After-refused → tie.After-validate
-after-validate c = c .before .before .before
+abbrev after-validate : tie.Else1 → tie.After-validate
+after-validate c = c .before .before
 
 abbrev then1 : tie.After-entries-arg3 → tie.Then1
 then1 c = c .before .before .before .before .before
@@ -62,9 +62,6 @@ returns : tie.Need-returns
 returns c =
     demands-of narrow-packing _ _ _ _ _ _ (accepted narrowWidth _ _ _ _ _ (number-0 (taken-in (ran c))) ∙ ran c .entries .ensures)
 
-refused-requires : tie.Need-refused-requires
-refused-requires c κs = search needs
-
 same-length-4 : tie.Need-same-length-4
 same-length-4 c = search needs
 
@@ -75,9 +72,8 @@ returns-2 c =
     let a = start checked .args in
     let is = checked .validate .ensures in
     demands-of narrow-packing _ _ _ _ _ _
-    (refused narrowWidth _ _ _ _ _ (λ e. c .before .if1 .left (ap (λ (r : Refusal). r .number) is ∙ e))
-    ∙ ap (λ (r : Refusal). refusedResult r (a .cells .now) (a .answers .now) (a .log .now)) (sym is)
-    ∙ (λ i. record { outcome = sym (c .refused .ensures) i; cells = a .cells .now; answers = a .answers .now; log = a .log .now }))
+    (refused narrowWidth _ _ _ _ _ (λ e. c .if1 .left (ap (λ (r : Refusal). r .number) is ∙ e))
+    ∙ ap (λ (r : Refusal). refusedResult r (a .cells .now) (a .answers .now) (a .log .now)) (sym is))
 
 pub run-spec : {M : Type 1} → statement M
 run-spec =
@@ -91,6 +87,5 @@ run-spec =
     same-length-2
     same-length-3
     returns
-    refused-requires
     same-length-4
     returns-2)
