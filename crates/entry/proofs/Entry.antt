@@ -31,8 +31,8 @@ use Rattle.rules.specs.declared.turn.Left.{Left}
 use Rattle.rules.specs.Turn.{turnSeen}
 use Rattle.rules.proofs.Turns.{seen-other, turn-on, step-read}
 use Rattle.step.specs.declared.Record.{Record}
-use Rattle.step.specs.Record.{begun, passing, turned, leftAt, stepTaken}
-use Rattle.step.proofs.Steps.{within, stands-reading, step-within}
+use Rattle.step.specs.Record.{begun, passedOn, turned, leftAt, stepTaken}
+use Rattle.step.proofs.Steps.{within, passed-on, stands-reading, step-within}
 use Rattle.entry.specs.Lent.{Lent, cellIn, cellAt, placed, withCell, withAnswer}
 use Rattle.entry.specs.declared.Taken.{Taken}
 use Rattle.entry.specs.Entry.{Standing, told, storedBy, isPass, stepAt, takenBy, afterEntry}
@@ -152,22 +152,20 @@ module _ (kind own key c : ℕ) (r : Record) (e : isPass kind own key c r ≡ tr
       denied : (m n : ℕ) → T (not (eqb m n)) → m ≡ n → ⊥
       denied m n t q = subst (λ (b : Bool). T (not b)) (eq-eqb m n q) t
 
-  pub pass-within : (r .at < c) × (r .passed < c)
-  pass-within = (tests .at, omega (arith, tests .passed))
-
 -- and its step leaves the cell, and the record at the following one
 pub pass-step : (ceiling c : ℕ) (operation : Operation) (r : Record) (x : Cell) → isPass (operation .kind) (operation .key) (x .key) c r ≡ true
-    → stepTaken ceiling c operation r x ≡ record { left = record { stores = false; cell = x; turn = Pass }; progress = passing c r }
+    → stepTaken ceiling c operation r x ≡ record { left = record { stores = false; cell = x; turn = Pass }; progress = passedOn c r }
 unfolding leftAt turned
 pass-step ceiling c operation r x e =
     let t = tests (operation .kind) (operation .key) (x .key) c r e in
-    let inside = pass-within (operation .kind) (operation .key) (x .key) c r e in
+    let inside = within c r (t .at) (omega (arith, t .passed)) in
     let seen = seen-other (operation .key) (x .key) (x .total) (t .filled) (t .foreign) in
     let turn = turn-on ceiling c operation (r .passed) (ne-eqb (suc (r .passed)) c (λ q. omega (arith, q, t .passed))) ∙ ap (turnSeen ceiling c operation (r .passed)) (sym seen) in
     let left = step-read ceiling c operation (t .known) x (r .passed) turn in
     sym
-    (step-within ceiling c operation r x (within c r (inside .0) (inside .1))
+    (step-within ceiling c operation r x inside
     (left ∙ ap (λ (s : Option (Pending Total)). leftAt ceiling c operation s x) (stands-reading (r .stage) (r .passed) (r .total) (t .reads))))
+    ∙ ap (λ (q : Record). record { left = record { stores = false; cell = x; turn = Pass }; progress = q }) (passed-on c r inside)
 
 -- what an entry leaves: the step that it takes, and what the turn adds
 pub leaves : (flagged : Bool) (c w i : ℕ) (s : Standing) {taken : Taken} {table′ : Lent} {q : Standing}

@@ -1,4 +1,5 @@
--- Must be believed of the promises of entry alone: what `run` and `report` promise rests on semantics/specs.
+-- Must be believed of the promise of entry::take alone, down to storedBy; the rest is an aid: what `run` and `report` promise rests on
+-- semantics/specs.
 -- Document 01, "What one step does": what an entry that names an unfinished row leaves, on the words and records of the code. The step is that
 -- of step/specs/Record.antt.
 -- Assumes nothing.
@@ -20,11 +21,6 @@ use Rattle.step.specs.Record.{begun, stepTaken}
 use Rattle.entry.specs.declared.Taken.{Taken}
 use Rattle.entry.specs.Lent.{Lent, operationIn, cellAt, withCell, withAnswer}
 
--- whether a step is a pass: the record of an operation of a kind and a key reads, within the table, a cell of another key than that and 0, not
--- the last of c
-unfoldable pub isPass : ℕ → ℕ → ℕ → ℕ → Record → Bool
-isPass kind own key c r = eqb (r .stage) 0 && (not (eqb key 0) && (not (eqb key own) && (ltb (r .at) c && (ltb (suc (r .passed)) c && isKind kind))))
-
 -- the step of the row in a word, at the cell of the table where its record stands; what it leaves beside the table, and the table after it
 unfoldable pub stepAt : Bool → ℕ → ℕ → Record → Lent → Stepped
 stepAt flagged c w r l = stepTaken (widthOf flagged .ceiling) c (operationIn (widthOf flagged) w) r (cellAt l (r .at))
@@ -34,6 +30,11 @@ takenBy s = record { turn = s .left .turn; progress = s .progress }
 
 unfoldable pub storedBy : Lent → ℕ → Left → Lent
 storedBy l at left = cond (left .stores) (withCell l at (left .cell)) l
+
+-- whether a step is a pass: the record of an operation of a kind and a key reads, within the table, a cell of another key than that and 0, not
+-- the last of c
+unfoldable pub isPass : ℕ → ℕ → ℕ → ℕ → Record → Bool
+isPass kind own key c r = eqb (r .stage) 0 && (not (eqb key 0) && (not (eqb key own) && (ltb (r .at) c && (ltb (suc (r .passed)) c && isKind kind))))
 
 -- where a run stands between two entries: the slices, every row's record, the set of finished rows and the lost swaps
 pub record Standing : Type 0 where

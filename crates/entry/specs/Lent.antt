@@ -1,4 +1,5 @@
--- Must be believed of the promises of entry alone: what `run` and `report` promise rests on semantics/specs.
+-- Must be believed of the promises of entry alone, and laidIn, wordsIn, othersIn and Ready are aids: what `run` and `report` promise rests on
+-- semantics/specs.
 -- A table, or its answers, as the run is lent them: as two slices, of narrow words and of wide ones, of which one is empty.
 -- Assumes nothing.
 use mathlib.Core.Path.{_≡_}

@@ -7,9 +7,7 @@ mod slices; // slices.rt: a place of two slices
 pub mod answers; // answers.rt: the answers and the log
 
 ghost use mathlib.Core.Path.{_≡_};
-ghost use Prim.Native.Nat.{_<_};
 ghost use Rattle.semantics.specs.Widths.{widthOf};
-ghost use Rattle.step.specs.Record.{passing};
 ghost use Rattle.entry.specs.First.{firstRecords};
 ghost use Rattle.entry.specs.Lent.{operationIn};
 ghost use Rattle.entry.specs.Entry.{isPass, storedBy, stepAt, takenBy};
@@ -30,6 +28,7 @@ use rules::turn::Turn;
 use semantics::MOST_OPERATIONS;
 use step::READING;
 use step::Record;
+use step::pass_on;
 use step::reading;
 use step::take_step;
 
@@ -91,20 +90,6 @@ fn is_pass(kind: u8, own: u16, key: u16, c: usize, progress: Record) -> bool
     false
 }
 
-// The record after a pass, of one that is known to stand within the table; of any record the pass is
-// step's own.
-fn passed_on(progress: Record, c: usize) -> Record
-    requires { ⌜ (progress .at < c) × (progress .passed < c) ⌝ }
-    ensures { λ r. ⌜ r ≡ passing c progress ⌝ }
-{
-    let next = progress.at + 1;
-    let passed = progress.passed + 1;
-    if next == c {
-        return reading(0, passed);
-    }
-    reading(next, passed)
-}
-
 // Stores what a step leaves, if it stores anything.
 fn store(narrow: &mut [u32], wide: &mut [u64], at: usize, left: Left)
     ensures { λ _. ⌜ storedBy (record { narrow = now (narrow .entry); wide = now (wide .entry) }) at left
@@ -155,7 +140,7 @@ pub fn take(
     ) {
         return Taken {
             turn: Turn::Pass,
-            progress: passed_on(progress, c),
+            progress: pass_on(progress, c),
         };
     }
     let stepped = take_step(

@@ -15,7 +15,7 @@ use Rattle.rules.specs.declared.turn.Turn.the-variants.{Refuse}
 use Rattle.rules.specs.declared.turn.Left.{Left}
 use Rattle.step.specs.declared.Record.{Record}
 use Rattle.step.specs.declared.Stepped.{Stepped}
-use Rattle.step.specs.Record.{turned, heldAt, standing, isWithin, pendingOf, leftAt, stepTaken}
+use Rattle.step.specs.Record.{turned, heldAt, standing, isWithin, pendingOf, leftAt, stepTaken, passing, passedOn}
 
 -- where a record stands, by its stage
 module _ (n p : ℕ) (t : Total) where
@@ -34,7 +34,7 @@ module _ (n p : ℕ) (t : Total) where
   unfolding standing
   stands-not e l = ap₂ by-tests (sym (ne-eqb n 0 e)) (sym (le-ltb n 3 l))
 
--- a record within the table stands where its stage says, and one outside it takes no step
+-- a record within the table stands where its stage says and may pass on, and one outside it takes no step
 module _ (c : ℕ) (r : Record) where
   pub within : r .at < c → r .passed < c → isWithin c r ≡ true
   unfolding isWithin
@@ -49,6 +49,10 @@ module _ (c : ℕ) (r : Record) where
   pub pending-is : {z : Bool} → isWithin c r ≡ z → pendingOf c r ≡ cond z (standing (r .stage) (r .passed) (r .total)) none
   unfolding pendingOf
   pending-is e = ap (λ (z : Bool). cond z (standing (r .stage) (r .passed) (r .total)) none) e
+
+  pub passed-on : {z : Bool} → isWithin c r ≡ z → cond z (passing c r) r ≡ passedOn c r
+  unfolding passedOn
+  passed-on e = ap (λ (z : Bool). cond z (passing c r) r) (sym e)
 
 -- a step by where its record stands
 module _ (ceiling c : ℕ) (operation : OperationParts) (r : Record) (x : CellParts) where

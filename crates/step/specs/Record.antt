@@ -76,6 +76,10 @@ isWithin c r = ltb (r .at) c && ltb (r .passed) c
 unfoldable pub pendingOf : ℕ → Record → Option (Pending Total)
 pendingOf c r = cond (isWithin c r) (standing (r .stage) (r .passed) (r .total)) none
 
+-- the pass of a record within the table; any other stays
+unfoldable pub passedOn : ℕ → Record → Record
+passedOn c r = cond (isWithin c r) (passing c r) r
+
 -- what a step leaves of its cell, and that of any other record
 unfoldable pub leftAt : ℕ → ℕ → OperationParts → Option (Pending Total) → CellParts → Left
 leftAt ceiling c operation none x = record { stores = false; cell = x; turn = Refuse }

@@ -7,7 +7,7 @@ ghost use mathlib.Core.Bool.{false};
 ghost use Prim.Native.Nat.{_<_};
 ghost use Rattle.rules.specs.declared.turn.Turn.the-variants.{Refuse};
 ghost use Rattle.rules.specs.Turn.{heldOf};
-ghost use Rattle.step.specs.Record.{readingAt, passing, holdingWord, losing, finishing, turned, isWithin, heldAt, standing, leftAt, stepTaken};
+ghost use Rattle.step.specs.Record.{readingAt, passing, holdingWord, losing, finishing, turned, isWithin, passedOn, heldAt, standing, leftAt, stepTaken};
 use rules::effect::Answer;
 use rules::effect::Cell;
 use rules::effect::NOTHING;
@@ -140,6 +140,16 @@ pub fn reading(at: usize, passed: usize) -> Record
         code: 0,
         total: NOTHING,
     }
+}
+
+// On to the following cell of c, of a record within the table; any other stays.
+pub fn pass_on(progress: Record, c: usize) -> Record
+    ensures { λ r. ⌜ r ≡ passedOn c progress ⌝ }
+{
+    if progress.is_within(c) {
+        return progress.pass(c);
+    }
+    progress
 }
 
 // The word that is held, at a stage that holds one: the empty word, or the key with the total.

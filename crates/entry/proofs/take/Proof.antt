@@ -5,11 +5,11 @@ use mathlib.Core.Bool.{true, false}
 use Rattle.semantics.specs.Widths.{widthOf}
 use Rattle.rules.specs.declared.turn.Turn.the-variants.{Pass}
 use Rattle.step.specs.declared.Stepped.{Stepped}
-use Rattle.step.specs.Record.{stepTaken, passing}
+use Rattle.step.specs.Record.{stepTaken, passedOn}
 use Rattle.entry.specs.Lent.{Lent, operationIn, cellAt}
 use Rattle.entry.specs.Entry.{isPass, stepAt, takenBy, storedBy}
 use Rattle.entry.proofs.Lent.{stored-none}
-use Rattle.entry.proofs.Entry.{pass-within, pass-step}
+use Rattle.entry.proofs.Entry.{pass-step}
 use borrow.Author.Needs.{needs}
 use Rattle.entry.proofs.take.Statement.{statement}
 use Rattle.entry.proofs.take.Tie as tie
@@ -61,7 +61,7 @@ told-pass c =
 
 passed : (c : tie.Then1)
     → let s = start (c .before) in
-    asked s ≡ record { left = record { stores = false; cell = cellAt (table s) (s .args .progress .at); turn = Pass }; progress = passing (s .args .c) (s .args .progress) }
+    asked s ≡ record { left = record { stores = false; cell = cellAt (table s) (s .args .progress .at); turn = Pass }; progress = passedOn (s .args .c) (s .args .progress) }
 unfolding stepAt
 passed c = let s = start (c .before) in pass-step _ _ (operationIn (widthOf (s .args .flagged)) (s .args .w)) _ _ (told-pass c)
 
@@ -87,8 +87,8 @@ load-key-requires c κs = search needs
 is-pass-requires : tie.Need-is-pass-requires
 is-pass-requires c κs = search needs
 
-passed-on-requires : tie.Need-passed-on-requires
-passed-on-requires c κs = pass-within _ _ _ _ _ (told-pass c)
+pass-on-requires : tie.Need-pass-on-requires
+pass-on-requires c κs = search needs
 
 same-length : tie.Need-same-length
 same-length c = search needs
@@ -102,7 +102,7 @@ returns c =
     let s = start (told .before) in
     let pass = passed told in
     let left = ap (λ (x : Stepped). x .left) pass in (
-      (λ i. record { turn = Pass; progress = c .passed-on .ensures i }) ∙ ap takenBy (sym pass),
+      (λ i. record { turn = Pass; progress = c .pass-on .ensures i }) ∙ ap takenBy (sym pass),
       ap (storedBy (table s) (s .args .progress .at)) left ∙ stored-none _ _ _ refl,
     )
 
@@ -144,7 +144,7 @@ take-spec =
     key-in-requires
     load-key-requires
     is-pass-requires
-    passed-on-requires
+    pass-on-requires
     same-length
     same-length-2
     returns
