@@ -12,7 +12,7 @@ ghost use Rattle.semantics.specs.Text.{handed};
 use hash::home;
 use hash::size_allowed;
 use packing::narrow::narrow_total;
-use rules::effect::plus;
+use rules::effect::sum_of;
 use semantics::Loaded;
 use semantics::Outcome;
 use semantics::Written;
@@ -33,13 +33,18 @@ pub extern "C" fn room_home(key: u32, c: u32) -> u32
     65535
 }
 
-// The sum of two totals, or 65,535 (document 01's pinned) where it is larger.
+// The sum of two totals, or 65,535 (document 01's pinned) where it is larger; and 65,536 more where the
+// first was true and the sum is pinned.
 #[no_mangle]
 pub extern "C" fn room_sum(a: u16, b: u16) -> u32
     ensures { λ r. ⌜ r ≡ roomSum a b ⌝ }
 {
-    let sum = plus(65535, narrow_total(a), narrow_total(b));
-    sum.amount
+    let sum = sum_of(65535, narrow_total(a), narrow_total(b));
+    let total = sum.total;
+    if sum.capped {
+        return total.amount + 65536;
+    }
+    total.amount
 }
 
 // A whole run.

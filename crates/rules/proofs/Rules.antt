@@ -2,17 +2,19 @@
 -- Assumes nothing.
 use mathlib.Core.Path.{_≡_, refl, sym, ap, _∙_}
 use Prim.Native.Nat.{ℕ, _+_, _≤_, _<_}
-use mathlib.Core.Bool.{Bool, true, false, _||_, not-eq-not, or-true, or-false}
+use mathlib.Core.Bool.{Bool, true, false, cond, _||_, not-eq-not, or-true, or-false}
 use native.Mathlib.Omega.{arith}
 use lib.Dec.{ltb, ltb→lt}
 use borrow.Author.Tests.{le-leb, lt-leb}
 use Rattle.semantics.specs.declared.Total.{Total}
-use Rattle.semantics.specs.Totals.{heldAt, plusAt}
-use Rattle.semantics.specs.Cells.{codeOf, totalOf}
+use Rattle.semantics.specs.Totals.{heldAt, plusAt, caps, capsAt}
+use Rattle.semantics.specs.Cells.{changed, capped, codeOf, totalOf}
 use Rattle.semantics.specs.Step.{makes, effect, fateCell}
 use Rattle.semantics.specs.Words.{isKind, kindOf}
 use Rattle.semantics.proofs.Booleans.{both, true-T}
 use Rattle.rules.specs.declared.effect.Operation.{Operation as OperationParts}
+use Rattle.rules.specs.declared.effect.Answer.{Answer as AnswerParts}
+use Rattle.rules.specs.declared.effect.Sum.{Sum}
 use Rattle.rules.specs.declared.effect.Rule.{Rule}
 use Rattle.rules.specs.Values.{operationOf, cellParts, answerParts}
 use Rattle.semantics.specs.Words.{nothing, carried}
@@ -45,18 +47,34 @@ module _ (ceiling c : ℕ) (o : OperationParts) (t : Total) where
   unfolding ruleOf
   rule-by e = ap rule-at (sym e)
 
-  -- kind by kind: what it makes, whether it finishes at the read, its code, and what it stores; u is the sum
-  abbrev says : Bool → Bool → ℕ → ℕ → Total → Rule
-  says makes stays code key new = record { known = true; makes = makes; stays = stays; cell = record { key = key; total = new }; answer = record { code = code; total = t } }
+  -- what an add answers in parts, by whether it is capped
+  add-parts : (z : Bool) → record { code = cond z 8 4; total = t } ≡ answerParts (cond z (capped t) (changed t))
+  unfolding answerParts codeOf totalOf carried
+  add-parts true = refl
+  add-parts false = refl
 
-  pub rule-kinds : (u : Total) → u ≡ plusAt ceiling t (o .amount)
+  -- kind by kind: what it makes, whether it finishes at the read, its answer, and what it stores; an add has the sum s, with the code coded
+  abbrev answers : Bool → Bool → AnswerParts → ℕ → Total → Rule
+  answers makes stays answer key new = record { known = true; makes = makes; stays = stays; cell = record { key = key; total = new }; answer = answer }
+
+  abbrev says : Bool → Bool → ℕ → ℕ → Total → Rule
+  says makes stays code key new = answers makes stays (record { code = code; total = t }) key new
+
+  pub rule-kinds : (s : Sum) (coded : ℕ)
+      → s ≡ record { total = plusAt ceiling t (o .amount); capped = capsAt ceiling t (o .amount) } → coded ≡ cond (s .capped) 8 4
       → (o .kind ≡ 1 → says false true 1 (o .key) t ≡ ruleOf ceiling c o t)
       × (o .kind ≡ 2 → says true true 3 (o .key) t ≡ ruleOf ceiling c o t)
       × (o .kind ≡ 3 → says false false 4 (o .key) (o .amount) ≡ ruleOf ceiling c o t)
-      × (o .kind ≡ 4 → says true false 4 (o .key) u ≡ ruleOf ceiling c o t)
+      × (o .kind ≡ 4 → says true false coded (o .key) (s .total) ≡ ruleOf ceiling c o t)
       × (o .kind ≡ 5 → says false false 5 65535 nothing ≡ ruleOf ceiling c o t)
-  unfolding ruleIf isKind kindOf makes effect isStay fateCell cellParts answerParts codeOf totalOf carried
-  rule-kinds u sum = (rule-by, rule-by, rule-by, λ e. ap (says true false 4 (o .key)) sum ∙ rule-by e, rule-by)
+  unfolding ruleIf isKind kindOf makes effect caps capsAt isStay fateCell cellParts answerParts codeOf totalOf carried
+  rule-kinds s coded is is-coded = (rule-by, rule-by, rule-by, λ e. add ∙ rule-by e, rule-by)
+    where
+      add : says true false coded (o .key) (s .total) ≡ rule-at 4
+      add =
+          ap (λ (n : ℕ). says true false n (o .key) (s .total)) is-coded
+          ∙ ap (λ (s : Sum). says true false (cond (s .capped) 8 4) (o .key) (s .total)) is
+          ∙ ap (λ (a : AnswerParts). answers true false a (o .key) (plusAt ceiling t (o .amount))) (add-parts (capsAt ceiling t (o .amount)))
 
   pub rule-if : {b : Bool} → isKind (o .kind) ≡ b → ruleIf b ceiling c (operationOf o) t ≡ ruleOf ceiling c o t
   unfolding ruleOf

@@ -2,15 +2,15 @@
 // the read rule and the new cell, chosen by one match over the kind. All of it is on values, under
 // any ceiling of totals; no packed word is seen.
 ghost use mathlib.Core.Path.{_≡_};
-ghost use mathlib.Core.Bool.{true};
+ghost use mathlib.Core.Bool.{true, cond};
 ghost use Prim.Native.Nat.{ℕ};
-ghost use Rattle.semantics.specs.Totals.{plusAt};
+ghost use Rattle.semantics.specs.Totals.{plusAt, capsAt};
 ghost use Rattle.semantics.specs.Words.{isKind};
 ghost use Rattle.rules.specs.Rule.{ruleOf};
 use semantics::Total;
 
 // Document 01's numbers of the kinds are 1 find, 2 insert, 3 update, 4 add, 5 remove; its codes of the
-// answers are these. An operation that is not finished has code 0.
+// answers are these, 8 of document 02. An operation that is not finished has code 0.
 pub const FOUND: u32 = 1;
 
 pub const INSERTED: u32 = 2;
@@ -24,6 +24,8 @@ pub const REMOVED: u32 = 5;
 pub const ABSENT: u32 = 6;
 
 pub const FULL: u32 = 7;
+
+pub const CAPPED: u32 = 8;
 
 // The total of an answer that carries none, and of a tombstone.
 pub const NOTHING: Total = Total {
@@ -50,6 +52,12 @@ pub struct Answer {
     pub total: Total,
 }
 
+// What adding two totals gives: their sum, and whether the first is capped by it.
+pub struct Sum {
+    pub total: Total,
+    pub capped: bool,
+}
+
 // What a kind of operation does: whether it makes a missing key; and where its key has a total,
 // whether it finishes at the read, the cell that its swap stores, and what it answers.
 pub struct Rule {
@@ -61,7 +69,7 @@ pub struct Rule {
 }
 
 // The sum of two totals, held at a ceiling.
-pub fn plus(ceiling: u32, a: Total, b: Total) -> Total
+fn plus(ceiling: u32, a: Total, b: Total) -> Total
     ensures { λ r. ⌜ r ≡ plusAt ceiling a b ⌝ }
 {
     let sum = a.amount as u64 + b.amount as u64;
@@ -74,6 +82,18 @@ pub fn plus(ceiling: u32, a: Total, b: Total) -> Total
     Total {
         amount: ceiling,
         saturated: true,
+    }
+}
+
+// The sum of two totals, held at a ceiling. It is capped if it turned the first of them, not the second,
+// from a true total into a saturated one.
+pub fn sum_of(ceiling: u32, a: Total, b: Total) -> Sum
+    ensures { λ r. ⌜ r ≡ record { total = plusAt ceiling a b; capped = capsAt ceiling a b } ⌝ }
+{
+    let total = plus(ceiling, a, b);
+    Sum {
+        total: total,
+        capped: !a.saturated & total.saturated,
     }
 }
 
@@ -104,14 +124,11 @@ pub(crate) fn rule_of(ceiling: u32, operation: Operation, total: Total) -> Rule
         1 => known(false, true, FOUND, total, key, total),
         2 => known(true, true, PRESENT, total, key, total),
         3 => known(false, false, CHANGED, total, key, amount),
-        4 => known(
-            true,
-            false,
-            CHANGED,
-            total,
-            key,
-            plus(ceiling, total, amount),
-        ),
+        4 => {
+            let sum = sum_of(ceiling, total, amount);
+            let new = sum.total;
+            known(true, false, add_code(sum.capped), total, key, new)
+        }
         5 => known(false, false, REMOVED, total, 65535, NOTHING),
         _ => Rule {
             known: false,
@@ -127,6 +144,16 @@ pub(crate) fn rule_of(ceiling: u32, operation: Operation, total: Total) -> Rule
             },
         },
     }
+}
+
+// What an add of its own key answers, by whether its sum is capped.
+fn add_code(capped: bool) -> u32
+    ensures { λ r. ⌜ r ≡ cond capped 8 4 ⌝ }
+{
+    if capped {
+        return CAPPED;
+    }
+    CHANGED
 }
 
 // The rule of a kind that answers a code with the old total, and stores a key with a new one.

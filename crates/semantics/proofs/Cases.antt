@@ -1,5 +1,5 @@
--- The cases hold, the starred ones of document 01 and the further ones, and what demand 3 asks can be met, with no cell to spare too: each
--- by computation. Where it is met, demand 3 speaks.
+-- The cases hold, the starred ones of document 01, those of document 02 and the further ones, and what demand 3 asks can be met, with no
+-- cell to spare too: each by computation. Where it is met, demand 3 speaks.
 -- Assumes nothing.
 use mathlib.Core.Path.{_≡_, refl}
 use Prim.Native.Nat.{ℕ}
@@ -34,9 +34,9 @@ unfoldable pub computed : Unit {0}
 unfolding
     resultOf holds cases inFull longer edge
     Cases.resultWith Cases.leftBy Cases.sameList Cases.readBy Cases.refusedBy Cases.lent Cases.lentAs Cases.readingOf
-    Cases.starred Cases.inFullFile Cases.inFullText Cases.goneFile Cases.goneText
+    Cases.starred Cases.capped Cases.inFullFile Cases.inFullText Cases.goneFile Cases.goneText
     Cases.furtherNumbers Cases.furtherCalls Cases.furtherFiles Cases.furtherTexts Cases.furtherRuns Cases.everyFile Cases.everyText
-    Totals.heldAt Totals.plusAt Totals.sameTotal Narrow.narrow
+    Totals.heldAt Totals.plusAt Totals.caps Totals.capsAt Totals.sameTotal Narrow.narrow
     Cells.codeOf Cells.totalOf Cells.keyed Cells.lookup Cells.isEmpty Cells.usedCells
     orElse Basics.allOf Basics.anyOf Basics.countOf Basics.isSome Basics.firstFrom Basics.firstBelow Basics.someBelow
     Words.isPowerFrom Words.sizeAllowed Words.homeIn Words.isLiveKey Words.cellFrom Words.decode Words.encode

@@ -2,11 +2,11 @@
 -- Assumes nothing.
 use mathlib.Core.Path.{_≡_, refl, ap, ap₂, sym, subst, _∙_}
 use Prim.Native.Nat.{ℕ, _+_, _*_, _≤_, min}
-use mathlib.Core.Bool.{_||_, _&&_}
+use mathlib.Core.Bool.{Bool, cond, not, _||_, _&&_}
 use native.Mathlib.Omega.{arith}
 use lib.Dec.{T, eqb, leb, eqb→eq, leb→le}
 use Rattle.semantics.specs.declared.Total.{Total}
-use Rattle.semantics.specs.Totals.{heldAt, plusAt}
+use Rattle.semantics.specs.Totals.{heldAt, plusAt, caps, capsAt}
 use Rattle.semantics.specs.Cells.{Cell, empty, tombstone, live}
 use Rattle.semantics.specs.Words.{isLiveKey, isKind, takesAmount, encode}
 use Rattle.semantics.specs.Narrow.{narrow, narrowCeiling, isNarrowTotal, keyOf, totalBits, tombstoneWord, cellAllowed, narrowWidth, roomSum}
@@ -40,9 +40,13 @@ pub narrow-plus : (a b : ℕ) → plusAt narrowCeiling (narrow a) (narrow b) ≡
 unfolding plusAt heldAt narrow
 narrow-plus a b = let f = narrow-reached a b in λ i. record { amount = min (a + b) narrowCeiling; saturated = f i }
 
-pub room-sum : (a b : ℕ) → roomSum a b ≡ min (a + b) narrowCeiling
-unfolding roomSum plusAt heldAt narrow
-room-sum a b = refl
+-- the C++ caller's sum in plain numbers: held, and 65,536 more where the first total is true and the whole sum is not below the ceiling
+pub room-sum : (a b : ℕ) → let sum = min (a + b) narrowCeiling in
+    roomSum a b ≡ cond (not (eqb a narrowCeiling) && leb narrowCeiling (a + b)) (sum + 65536) sum
+unfolding roomSum capsAt caps narrow
+room-sum a b =
+    ap₂ (λ (t : Total) (z : Bool). cond (not (eqb a narrowCeiling) && z) (t .amount + 65536) (t .amount)) (narrow-plus a b)
+    (ap (λ (t : Total). t .saturated) (narrow-plus a b) ∙ same-test _ _ (omega compared) (omega compared))
 
 plus-total : (t u : Total) → T (isNarrowTotal t) → T (isNarrowTotal u) → T (isNarrowTotal (plusAt narrowCeiling t u))
 plus-total t u p q =

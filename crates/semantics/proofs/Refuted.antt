@@ -30,7 +30,7 @@ use Rattle.semantics.proofs.Cases.{computed}
 unfoldable replayed : Unit {0}
 unfolding
     computed replayOf Basics.occurs Totals.amounts Totals.anySaturated Totals.sumAt
-    Map.withPair Map.unchanged Map.replaced Map.mapOf Map.stored Map.perform Map.performed Map.noted Map.replayOne Map.replay
+    Map.withPair Map.unchanged Map.replaced Map.added Map.mapOf Map.stored Map.perform Map.performed Map.noted Map.replayOne Map.replay
     TotalsRule.amountsAdded TotalsRule.expectedFrom TotalsRule.expected TotalsKept Untouched
 replayed = tt
 
@@ -99,6 +99,21 @@ an-old-total h = differ (ap (λ l. getD l 1 0) (h .answers)) tt
 another-code : Linearizable narrowWidth start adds (left added (answer 4 40 ∷ answer 1 45 ∷ []) (0 ∷ 1 ∷ []) 2) → ⊥
 unfolding replayed
 another-code h = differ (ap (λ l. getD l 1 0) (h .answers)) tt
+
+-- and of document 02, "A1", where the second add reaches the ceiling: a capped add called changed, and one with the new total
+abbrev over : List ℕ
+over = operation 4 1 5 ∷ operation 4 1 65490 ∷ []
+
+abbrev pinned : List ℕ
+pinned = table 8 (at 4 1 65535 ∷ [])
+
+capped-called-changed : Linearizable narrowWidth start over (left pinned (answer 4 40 ∷ answer 4 45 ∷ []) (0 ∷ 1 ∷ []) 2) → ⊥
+unfolding replayed
+capped-called-changed h = differ (ap (λ l. getD l 1 0) (h .answers)) tt
+
+capped-with-the-new-total : Linearizable narrowWidth start over (left pinned (answer 4 40 ∷ answer 8 65535 ∷ []) (0 ∷ 1 ∷ []) 2) → ⊥
+unfolding replayed
+capped-with-the-new-total h = differ (ap (λ l. getD l 1 0) (h .answers)) tt
 
 another-order : Linearizable narrowWidth start adds (left added both (1 ∷ 0 ∷ []) 2) → ⊥
 unfolding replayed

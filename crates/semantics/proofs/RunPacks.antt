@@ -11,7 +11,8 @@ use lib.Dec.{T, eqb}
 use lib.ListN.{length, getD, getElem?, length-set}
 use borrow.Author.Tests.{eqb-false}
 use Rattle.semantics.specs.declared.Total.{Total}
-use Rattle.semantics.specs.Cells.{Setting, Cell, empty, Kind, find, insert, update, add, remove, Operation, Answer, absent, full, totalOf}
+use Rattle.semantics.specs.Totals.{caps}
+use Rattle.semantics.specs.Cells.{Setting, Cell, empty, Kind, find, insert, update, add, remove, Operation, Answer, absent, full, changed, capped, totalOf}
 use Rattle.semantics.specs.Step.{Pending, reading, holding, State, pending, finished, Row, Machine, idled}
 use Rattle.semantics.specs.Step.{Sight, own, free, other, sight, Fate, stays, ends, becomes, holds, Held, vacant, mine, finishes, passes, fresh, after}
 use Rattle.semantics.specs.Step.{makes, effect, readOwn, read, exhausted, bounded}
@@ -62,7 +63,11 @@ module _ {W : Width} (P : Packing W) (c : ℕ) where
   effect-carries find t u = refl
   effect-carries insert t u = refl
   effect-carries update t u = refl
-  effect-carries add t u = refl
+  effect-carries add t u = go (caps (S .saturated t) (S .saturated (S .plus t u)))
+    where
+      go : (z : Bool) → carried (totalOf (cond z (capped t) (changed t))) ≡ t
+      go true = refl
+      go false = refl
   effect-carries remove t u = refl
 
   exhausted-total : (k : Kind) → T (W .isTotal (carried (totalOf (exhausted S k))))

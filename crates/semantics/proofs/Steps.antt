@@ -12,12 +12,13 @@ use borrow.Author.Tests.{eqb-true, eqb-false, eq-eqb, ne-eqb}
 use lib.Dec.{T, eqb}
 use lib.ListN.{length, getD, set}
 use lib.Seq.{set-getD}
-use Rattle.semantics.specs.Cells.{Setting, Cell, empty, tombstone, live, Kind, find, insert, update, add, remove, Operation, Answer, absent, full, inserted}
+use Rattle.semantics.specs.Totals.{caps}
+use Rattle.semantics.specs.Cells.{Setting, Cell, empty, tombstone, live, Kind, find, insert, update, add, remove, Operation, Answer, absent, full, inserted, changed, capped}
 use Rattle.semantics.specs.Cells.{keyed, isEmpty, usedCells}
 use Rattle.semantics.specs.Step.{Sight, own, free, other, sight, Held, vacant, mine, passes, holds, finishes, Pending, reading, holding, pending}
 use Rattle.semantics.specs.Step.{Turn, Effect, Fate, stays, ends, becomes, Stepped, makes, after, logged, effect, readOwn, read, exhausted, bounded}
 use Rattle.semantics.specs.Step.{heldCell, fateCell, newCell, swapAnswer, sameCell, swapped, step, passed, placeOf}
-use Rattle.semantics.specs.Map.{Map, Done, withPair, unchanged, replaced, stored, perform, performed}
+use Rattle.semantics.specs.Map.{Map, Done, withPair, unchanged, replaced, added, stored, perform, performed}
 use Rattle.semantics.proofs.Laws.{Lawful}
 use Rattle.semantics.proofs.Lists.{none-some}
 use Rattle.semantics.proofs.Booleans.{true-T, same-cell-sound}
@@ -38,6 +39,14 @@ follows-own k t y h f =
       filled = f;
     }
 
+-- what an add answers in the map is what it answers in the table
+answers-alike : {T : Type 0} (t : T) (was now : Bool) → added t was now ≡ cond (caps was now) (capped t) (changed t)
+unfolding added caps
+answers-alike t false true = refl
+answers-alike t false false = refl
+answers-alike t true true = refl
+answers-alike t true false = refl
+
 module _ (S : Setting) (L : Lawful S) where
   -- the tie between the step's rules and the map's own arms: on a present key, and on a missing one
   by-fate : ℕ → Map (S .Total) → Answer (S .Total) → Fate (S .Total) → Done (S .Total)
@@ -51,7 +60,7 @@ module _ (S : Setting) (L : Lawful S) where
   perform-some find k a m t = refl
   perform-some insert k a m t = refl
   perform-some update k a m t = refl
-  perform-some add k a m t = refl
+  perform-some add k a m t = ap (replaced k (some (S .plus t a)) m) (answers-alike t (S .saturated t) (S .saturated (S .plus t a)))
   perform-some remove k a m t = refl
 
   perform-none : (kind : Kind) (k : ℕ) (a : S .Total) (m : Map (S .Total))

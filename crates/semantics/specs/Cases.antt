@@ -1,6 +1,7 @@
 -- An aid, not to be believed: what the definitions come to on examples, computed by the prover.
--- Document 01, "Worked in the room table": its starred cases, then further ones, the rows of one list. proofs/Cases.antt covers them by one
--- claim, that each holds; and it shows three runs of which all that demand 3 asks is true.
+-- Document 01, "Worked in the room table": its starred cases, with document 02 where a request has moved one; then those of document 02, request
+-- by request; then further ones: the rows of one list. proofs/Cases.antt covers them by one claim, that each holds; and it shows three runs
+-- of which all that demand 3 asks is true.
 -- Tables have 8 cells where no other number stands. Slices for answers and log are as long as the operations where no length stands, and
 -- lent slices hold 9 before a call.
 -- Assumes nothing.
@@ -90,7 +91,7 @@ resultWith answers log j = runResult narrowWidth (j .cells) (j .operations) (j .
 pub data Case : Type 0 where
   -- the home of a key in c cells
   homeIs : ℕ → ℕ → ℕ → Case
-  -- the sum of two totals, and whether it is saturated
+  -- what the C++ caller gets for the sum of two totals, and whether the sum is saturated
   sumIs : ℕ → ℕ → ℕ → Bool → Case
   -- what a run leaves
   leaves : Contents → Left → Case
@@ -181,13 +182,13 @@ inFullFile =
     ++ (0x4F ∷ 0x50 ∷ 0x04 ∷ 0x00 ∷ 0x01 ∷ 0xFF ∷ 0xDC ∷ [])
     ++ (0x53 ∷ 0x43 ∷ 0x0C ∷ 0x00 ∷ 0x01 ∷ 0x02 ∷ 0x00 ∷ 0x01 ∷ 0x02 ∷ 0x01 ∷ 0x01 ∷ 0x02 ∷ 0x02 ∷ 0x01 ∷ 0x00 ∷ [])
 
--- "It writes exactly"
+-- "It writes exactly"; "In the run in full, row 2 now ends `capped 40`." (document 02, "A1")
 unfoldable pub inFullText : List ℕ
 inFullText =
     text "rows 3 done 3 lost 2 idle 1\n"
     ++ text "row 0 add 1 40 inserted 0\n"
     ++ text "row 1 add 9 25 inserted 0\n"
-    ++ text "row 2 add 1 65500 changed 40\n"
+    ++ text "row 2 add 1 65500 capped 40\n"
     ++ text "log 0 2 1\n"
     ++ text "cell 4 1 pinned\n"
     ++ text "cell 5 9 25\n"
@@ -217,11 +218,11 @@ unfoldable pub starred : List Case
 starred =
     -- "Homes in 8 cells: keys 1, 9 and 17 at 4; 2 and 10 at 1; 5 at 0; 8 and 16 at 7."
     homeIs 1 8 4 ∷ homeIs 9 8 4 ∷ homeIs 17 8 4 ∷ homeIs 2 8 1 ∷ homeIs 10 8 1 ∷ homeIs 5 8 0 ∷ homeIs 8 8 7 ∷ homeIs 16 8 7
-    -- "65,534 + 0 is true; 65,534 + 1 and 65,535 + 0 are pinned."
-    ∷ sumIs 65534 0 65534 false ∷ sumIs 65534 1 65535 true ∷ sumIs 65535 0 65535 true
+    -- "65,534 + 0 is true; 65,534 + 1 and 65,535 + 0 are pinned." The second is capped.
+    ∷ sumIs 65534 0 65534 false ∷ sumIs 65534 1 (65536 + 65535) true ∷ sumIs 65535 0 65535 true
     -- "The run in full."
     ∷ leaves inFull
-    (left (table 8 (at 4 1 65535 ∷ at 5 9 25 ∷ [])) (answer 2 0 ∷ answer 2 0 ∷ answer 4 40 ∷ []) (0 ∷ 2 ∷ 1 ∷ []) 3 2 1)
+    (left (table 8 (at 4 1 65535 ∷ at 5 9 25 ∷ [])) (answer 2 0 ∷ answer 2 0 ∷ answer 8 40 ∷ []) (0 ∷ 2 ∷ 1 ∷ []) 3 2 1)
     ∷ writes inFullFile inFullText
     -- "Cells 4 = (1, 40), 5 = (9, 25); rows remove 1, insert (9, 7); schedule 0 0 1 1: removed 40, present 25, cell 4 gone."
     ∷ leaves (job (table 8 (at 4 1 40 ∷ at 5 9 25 ∷ [])) (operation 5 1 0 ∷ operation 2 9 7 ∷ []) (0 ∷ 0 ∷ 1 ∷ 1 ∷ []))
@@ -249,6 +250,39 @@ starred =
     ∷ refused (table 12 []) 1 0
     ∷ []
 
+-- Document 02, "A1": room 1 alone in the table, in cell 4 with total t
+abbrev roomAt : ℕ → List ℕ
+roomAt t = table 8 (at 4 1 t ∷ [])
+
+-- one operation on such a room or on an empty table, in two steps: the total that room 1 then has, and the answer
+abbrev onRoom : List ℕ → ℕ → ℕ → ℕ → Case
+onRoom cells op total answered = leaves (job cells (op ∷ []) (0 ∷ 0 ∷ [])) (left (roomAt total) (answered ∷ []) (0 ∷ []) 1 0 0)
+
+unfoldable pub capped : List Case
+capped =
+    -- "An add that turns a true total into a pinned one now finishes capped (code 8) with the old total, where it finished changed.": one below the
+    -- ceiling, at it, above it, and by a pinned amount
+    onRoom (roomAt 40) (operation 4 1 65494) 65534 (answer 4 40)
+    ∷ onRoom (roomAt 40) (operation 4 1 65495) 65535 (answer 8 40)
+    ∷ onRoom (roomAt 40) (operation 4 1 65496) 65535 (answer 8 40)
+    ∷ onRoom (roomAt 0) (operation 4 1 65535) 65535 (answer 8 0)
+    ∷ onRoom (roomAt 65534) (operation 4 1 1) 65535 (answer 8 65534)
+    -- from a pinned total nothing is turned, and an update and an insertion are no adds that turn one: "on an empty cell, the key and the amount
+    -- (inserted)"
+    ∷ onRoom (roomAt 65535) (operation 4 1 0) 65535 (answer 4 65535)
+    ∷ onRoom (roomAt 65535) (operation 4 1 65535) 65535 (answer 4 65535)
+    ∷ onRoom (roomAt 40) (operation 3 1 65535) 65535 (answer 4 40)
+    ∷ onRoom (table 8 []) (operation 4 1 65535) 65535 (answer 2 0)
+    ∷ onRoom (table 8 []) (operation 2 1 65535) 65535 (answer 2 0)
+    -- whose swap is won decides: the second add loses its swap, reads again, and is capped by what it then reads; or finds the total pinned
+    ∷ leaves (job (roomAt 40) (operation 4 1 5 ∷ operation 4 1 65490 ∷ []) (0 ∷ 1 ∷ 0 ∷ 1 ∷ 1 ∷ 1 ∷ []))
+    (left (roomAt 65535) (answer 4 40 ∷ answer 8 45 ∷ []) (0 ∷ 1 ∷ []) 2 1 0)
+    ∷ leaves (job (roomAt 65530) (operation 4 1 10 ∷ operation 4 1 10 ∷ []) (0 ∷ 1 ∷ 1 ∷ 0 ∷ 0 ∷ 0 ∷ []))
+    (left (roomAt 65535) (answer 4 65535 ∷ answer 8 65530 ∷ []) (1 ∷ 0 ∷ []) 2 1 0)
+    -- "The sum of two totals must therefore also report whether a true first total became pinned; the C++ caller gets 65,536 more if so."
+    ∷ sumIs 0 65535 131071 true ∷ sumIs 65535 65535 65535 true ∷ sumIs 65534 65534 131071 true
+    ∷ []
+
 -- FURTHER CASES, which the document does not work out. Each stands at an edge of one of its sentences, so that a definition that says
 -- another thing there has a row against it, whatever the code does. Five lists: numbers, calls of the run, files, texts and whole runs.
 
@@ -266,8 +300,7 @@ furtherNumbers =
     ∷ homeIs 1 0 65535 ∷ homeIs 1 4 65535 ∷ homeIs 1 12 65535 ∷ homeIs 1 8192 65535
     -- "Adding two totals gives their sum, or 65,535 if the sum is larger."; "Total 65,535 is pinned"
     ∷ sumIs 0 0 0 false ∷ sumIs 0 65534 65534 false ∷ sumIs 40 25 65 false
-    ∷ sumIs 32767 32767 65534 false ∷ sumIs 32768 32767 65535 true ∷ sumIs 32768 32768 65535 true
-    ∷ sumIs 0 65535 65535 true ∷ sumIs 65535 65535 65535 true
+    ∷ sumIs 32767 32767 65534 false ∷ sumIs 32768 32767 131071 true ∷ sumIs 32768 32768 131071 true ∷ sumIs 65535 1 65535 true
     -- "The key is the upper sixteen bits of the word, the total the lower sixteen."; "kind × 2^32 + key × 65,536 + amount"; "code × 65,536 +
     -- total"; "Key 65,535 with total 0 is a tombstone": words as numbers, in which add (1, 5) and then remove 1 change a cell
     ∷ leaves (job (0 ∷ 0 ∷ 0 ∷ 0 ∷ 0x00010028 ∷ 0 ∷ 0 ∷ 0 ∷ []) (0x0400010005 ∷ 0x0500010000 ∷ []) (0 ∷ 0 ∷ 1 ∷ 1 ∷ []))
@@ -434,7 +467,7 @@ everyText =
     ++ text "row 1 insert 8 pinned inserted 0\n"
     ++ text "row 2 insert 2 7 present 20\n"
     ++ text "row 3 update 7 65534 changed pinned\n"
-    ++ text "row 4 add 4 65534 changed 40\n"
+    ++ text "row 4 add 4 65534 capped 40\n"
     ++ text "row 5 remove 1 0 removed 10\n"
     ++ text "row 6 find 9 0 absent 0\n"
     ++ text "row 7 add 9 1 full 0\n"
@@ -501,16 +534,16 @@ unfoldable pub furtherRuns : List Case
 furtherRuns =
     leaves longer
     (left (table 16 (at 0 55 1 ∷ at 1 42 2 ∷ at 8 65535 0 ∷ at 9 1 65535 ∷ at 10 9 25 ∷ at 11 17 7 ∷ at 14 16 5 ∷ at 15 8 65535 ∷ []))
-    (answer 4 40 ∷ answer 2 0 ∷ answer 2 0 ∷ answer 4 140 ∷ answer 6 0 ∷ answer 4 65535 ∷ answer 2 0 ∷ answer 1 5 ∷ answer 4 25 ∷ answer 2 0 ∷ [])
+    (answer 4 40 ∷ answer 2 0 ∷ answer 2 0 ∷ answer 8 140 ∷ answer 6 0 ∷ answer 4 65535 ∷ answer 2 0 ∷ answer 1 5 ∷ answer 4 25 ∷ answer 2 0 ∷ [])
     (7 ∷ 0 ∷ 5 ∷ 4 ∷ 6 ∷ 1 ∷ 3 ∷ 8 ∷ 9 ∷ 2 ∷ []) 10 4 42)
     ∷ leaves edge
     (left (table 8 (at 0 5 65535 ∷ at 1 2 65535 ∷ at 2 10 2 ∷ at 3 17 1 ∷ at 4 65535 0 ∷ at 5 1 45 ∷ at 6 9 32 ∷ at 7 16 3 ∷ []))
-    (answer 2 0 ∷ answer 4 25 ∷ answer 4 40 ∷ answer 2 0 ∷ answer 2 0 ∷ answer 6 0 ∷ answer 4 65530 ∷ answer 2 0 ∷ [])
+    (answer 2 0 ∷ answer 4 25 ∷ answer 4 40 ∷ answer 2 0 ∷ answer 2 0 ∷ answer 6 0 ∷ answer 8 65530 ∷ answer 2 0 ∷ [])
     (6 ∷ 7 ∷ 2 ∷ 4 ∷ 5 ∷ 0 ∷ 1 ∷ 3 ∷ []) 8 2 54)
     ∷ []
 
 unfoldable pub cases : List Case
-cases = starred ++ furtherNumbers ++ furtherCalls ++ furtherFiles ++ furtherTexts ++ furtherRuns
+cases = starred ++ capped ++ furtherNumbers ++ furtherCalls ++ furtherFiles ++ furtherTexts ++ furtherRuns
 
 -- all that demand 3 asks of a run
 pub record Meets (j : Contents) : Type 0 where

@@ -8,10 +8,11 @@ use mathlib.Core.Option.{Option, none, some, orElse}
 use lib.Dec.{eqb}
 use Rattle.semantics.specs.Basics.{countOf}
 
--- Everything that the rules leave open: the type of totals, how two are added and compared, how one is summed with others as whole numbers
--- and then held, the number of cells c, and the home of a key.
+-- Everything that the rules leave open: the type of totals, which are saturated, how two are added and compared, how one is summed with
+-- others as whole numbers and then held, the number of cells c, and the home of a key.
 pub record Setting : Type 1 where
   pub Total : Type 0
+  pub saturated : Total → Bool
   pub plus : Total → Total → Total
   pub same : Total → Total → Bool
   pub sum : Total → List Total → Total
@@ -33,9 +34,10 @@ pub record Operation (T : Type 0) : Type 0 where
   pub key : ℕ
   pub amount : T
 
--- "Codes: 0 unfinished, 1 found, 2 inserted, 3 present, 4 changed, 5 removed, 6 absent, 7 full. Codes 0, 2, 6 and 7 carry total 0."
+-- "Codes: 0 unfinished, 1 found, 2 inserted, 3 present, 4 changed, 5 removed, 6 absent, 7 full. Codes 0, 2, 6 and 7 carry total 0." "capped (code
+-- 8) with the old total" (document 02, "A1")
 pub data Answer (T : Type 0) : Type 0 where
-  found present changed removed : T → Answer T
+  found present changed removed capped : T → Answer T
   inserted absent full : Answer T
 
 unfoldable pub codeOf : {T : Type 0} → Answer T → ℕ
@@ -46,6 +48,7 @@ codeOf (changed t) = 4
 codeOf (removed t) = 5
 codeOf absent = 6
 codeOf full = 7
+codeOf (capped t) = 8
 
 -- the total that an answer carries, if it carries one
 unfoldable pub totalOf : {T : Type 0} → Answer T → Option T
@@ -56,6 +59,7 @@ totalOf (changed t) = some t
 totalOf (removed t) = some t
 totalOf absent = none
 totalOf full = none
+totalOf (capped t) = some t
 
 -- "A room .. is present in the starting or final cells if one of them has its key, and its total there is that cell's."
 unfoldable pub keyed : {T : Type 0} → ℕ → Cell T → Option T

@@ -1,15 +1,16 @@
 -- Must be believed: what `run` promises rests on it.
--- Document 01, "The one-at-a-time map": a second statement of what is right. Its arms are its own: none of Step.antt's rules is used here.
+-- Document 01, "The one-at-a-time map", with document 02, "A1": a second statement of what is right. Its arms are its own: none of Step.antt's
+-- rules is used here.
 -- Demand 2, that any run is one of this map, is `Linearizable` of Demands.antt.
 -- Assumes nothing.
 use Prim.Native.Nat.{ℕ, suc}
-use mathlib.Core.Bool.{cond}
+use mathlib.Core.Bool.{Bool, true, false, cond}
 use mathlib.Core.List.{List, [], _∷_, _++_, foldl}
 use mathlib.Core.Option.{Option, none, some}
 use lib.Dec.{eqb}
 use lib.ListN.{getElem?}
 use Rattle.semantics.specs.Cells.{Setting, Cell, Kind, find, insert, update, add, remove, Operation, lookup, usedCells}
-use Rattle.semantics.specs.Cells.{Answer, found, present, changed, removed, inserted, absent, full}
+use Rattle.semantics.specs.Cells.{Answer, found, present, changed, removed, inserted, absent, full, capped}
 
 -- "It holds pairs and a number of used cells": each key's total, or none
 pub record Map (T : Type 0) : Type 0 where
@@ -36,6 +37,12 @@ unchanged m a = record { after = m; answer = a }
 unfoldable pub replaced : {T : Type 0} → ℕ → Option T → Map T → Answer T → Done T
 replaced k t m a = record { after = record { pairs = withPair k t (m .pairs); used = m .used }; answer = a }
 
+-- "The map answers alike" (A1): what an add answers with the old total t, by whether t was saturated and whether the sum is
+unfoldable pub added : {T : Type 0} → T → Bool → Bool → Answer T
+added t false true = capped t
+added t false false = changed t
+added t true now = changed t
+
 -- "at first the live pairs and the cells not empty"
 unfoldable pub mapOf : {T : Type 0} → List (Cell T) → Map T
 mapOf cells = record { pairs = λ k. lookup k cells; used = usedCells cells }
@@ -60,7 +67,7 @@ module _ (S : Setting) where
   perform insert k amount m (some t) = unchanged m (present t)
   -- "Update of a present key replaces its total."
   perform update k amount m (some t) = replaced k (some amount) m (changed t)
-  perform add k amount m (some t) = replaced k (some (S .plus t amount)) m (changed t)
+  perform add k amount m (some t) = let sum = S .plus t amount in replaced k (some sum) m (added t (S .saturated t) (S .saturated sum))
   -- "Remove deletes the pair and leaves used."
   perform remove k amount m (some t) = replaced k none m (removed t)
 

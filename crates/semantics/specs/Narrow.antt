@@ -5,7 +5,7 @@ use Prim.Native.Nat.{ℕ, _+_, _*_, _/_, _%_, _^_}
 use mathlib.Core.Bool.{Bool, cond, _&&_, _||_, Bool·beq}
 use lib.Dec.{eqb, leb}
 use Rattle.semantics.specs.declared.Total.{Total}
-use Rattle.semantics.specs.Totals.{plusAt}
+use Rattle.semantics.specs.Totals.{plusAt, capsAt}
 use Rattle.semantics.specs.Words.{sizeAllowed, homeIn, isLiveKey, tombstoneKey, isKind, takesAmount, Width}
 
 -- "Total 65,535 is pinned": the narrow total has ceiling 65,535, and is saturated exactly where it equals that
@@ -101,5 +101,6 @@ narrowWidth =
 unfoldable pub roomHome : ℕ → ℕ → ℕ
 roomHome k c = cond (sizeAllowed c && isLiveKey k) (homeIn c k) 65535
 
+-- and "the C++ caller gets 65,536 more" if a true first total became pinned (document 02, "A1")
 unfoldable pub roomSum : ℕ → ℕ → ℕ
-roomSum a b = plusAt narrowCeiling (narrow a) (narrow b) .amount
+roomSum a b = let sum = plusAt narrowCeiling (narrow a) (narrow b) .amount in cond (capsAt narrowCeiling (narrow a) (narrow b)) (sum + 65536) sum

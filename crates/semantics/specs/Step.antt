@@ -1,5 +1,6 @@
 -- Must be believed: what `run` and `report` promise rests on it.
--- Document 01, "What one step does": one atomic step on the one cell that it reads, an entry of the schedule, and the run.
+-- Document 01, "What one step does": one atomic step on the one cell that it reads, an entry of the schedule, and the run; with document 02, "A1",
+-- an add that is capped.
 -- StepRules.antt has the document's own lines beside these definitions.
 -- Assumes nothing.
 use Prim.Native.Nat.{ℕ, suc, _+_, _%_}
@@ -9,8 +10,9 @@ use mathlib.Core.Option.{Option, none, some}
 use lib.Dec.{eqb}
 use lib.ListN.{getD, set, getElem?}
 use Rattle.semantics.specs.Basics.{isSome, countOf}
+use Rattle.semantics.specs.Totals.{caps}
 use Rattle.semantics.specs.Cells.{Setting, Cell, empty, tombstone, live, Kind, find, insert, update, add, remove, Operation}
-use Rattle.semantics.specs.Cells.{Answer, found, present, changed, removed, inserted, absent, full}
+use Rattle.semantics.specs.Cells.{Answer, found, present, changed, removed, inserted, absent, full, capped}
 
 -- The word that an operation holds: the empty word, or its own key with a total.
 pub data Held (T : Type 0) : Type 0 where
@@ -71,12 +73,15 @@ makes add = true
 makes remove = false
 
 module _ (S : Setting) where
-  -- what find, insert, update, add and remove do where their key has total t, and what they answer
+  -- What find, insert, update, add and remove do where their key has total t, and what they answer. "An add that turns a true total into a
+  -- pinned one now finishes capped (code 8) with the old total, where it finished changed."
   unfoldable pub effect : Kind → S .Total → S .Total → Effect (S .Total)
   effect find t amount = record { fate = stays; answer = found t }
   effect insert t amount = record { fate = stays; answer = present t }
   effect update t amount = record { fate = becomes amount; answer = changed t }
-  effect add t amount = record { fate = becomes (S .plus t amount); answer = changed t }
+  effect add t amount =
+      let sum = S .plus t amount in
+      record { fate = becomes sum; answer = cond (caps (S .saturated t) (S .saturated sum)) (capped t) (changed t) }
   effect remove t amount = record { fate = ends; answer = removed t }
 
   -- "1. The row's key": what leaves the total as it is finishes at the read, anything else holds the word
@@ -129,7 +134,7 @@ module _ (S : Setting) where
   newCell o vacant = live (o .key) (o .amount)
   newCell o (mine t) = fateCell (o .key) t (effect (o .kind) t (o .amount) .fate)
 
-  -- "Update and add finish changed with the old total, remove finishes removed with it."
+  -- "Update and add finish changed with the old total, remove finishes removed with it." An add may be capped in place of changed.
   unfoldable pub swapAnswer : Operation (S .Total) → Held (S .Total) → Answer (S .Total)
   swapAnswer o vacant = inserted
   swapAnswer o (mine t) = effect (o .kind) t (o .amount) .answer

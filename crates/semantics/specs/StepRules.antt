@@ -1,13 +1,15 @@
 -- An aid, not to be believed: each line is proved, by `refl`, of the definitions of Step.antt.
--- Document 01, "What one step does", line by line: its read rules and new words, as the definitions of Step.antt compute them. Each line
--- holds by `refl`, so a reader can hold the document beside this page and need not unfold the definitions.
+-- Document 01, "What one step does", line by line: its read rules and new words, as the definitions of Step.antt compute them; and document 02
+-- where a request has moved one. Each line holds by `refl`, so a reader can hold the documents beside this page and need not unfold the
+-- definitions.
 -- Assumes nothing.
 use mathlib.Core.Path.{_≡_, refl}
 use Prim.Native.Nat.{ℕ, suc}
-use mathlib.Core.Bool.{true, false, cond}
+use mathlib.Core.Bool.{true, false, cond, not, _&&_}
 use lib.Dec.{eqb}
+use Rattle.semantics.specs.Totals.{caps}
 use Rattle.semantics.specs.Cells.{Setting, Cell, empty, tombstone, live, Kind, find, insert, update, add, remove, Operation}
-use Rattle.semantics.specs.Cells.{found, present, changed, removed, inserted, absent, full}
+use Rattle.semantics.specs.Cells.{found, present, changed, removed, inserted, absent, full, capped}
 use Rattle.semantics.specs.Step.{own, free, other, sight, Held, vacant, mine, passes, loses, holds, finishes, pending, reading, holding, fresh, after}
 use Rattle.semantics.specs.Step.{makes, effect, readOwn, read, exhausted, bounded, sameCell, heldCell, fateCell, newCell, swapAnswer, swapped, step}
 
@@ -70,7 +72,8 @@ module _ (S : Setting) (k : ℕ) (amount t : S .Total) (x : Cell (S .Total)) whe
   swapping = (λ p h. refl, λ o h. refl, λ o h. refl, λ p. refl, λ o p h. refl)
 
   -- "New words: on an empty cell, the key and the amount (inserted); update, the key and the amount; add, the key and the sum; remove, the
-  -- tombstone. Update and add finish changed with the old total, remove finishes removed with it."
+  -- tombstone. Update and add finish changed with the old total, remove finishes removed with it." "An add that turns a true total into a pinned
+  -- one now finishes capped (code 8) with the old total, where it finished changed." (document 02, "A1")
   new-words : (newCell S (row insert) vacant ≡ live k amount)
       × (newCell S (row add) vacant ≡ live k amount)
       × ((kind : Kind) → swapAnswer S (row kind) vacant ≡ inserted)
@@ -78,7 +81,7 @@ module _ (S : Setting) (k : ℕ) (amount t : S .Total) (x : Cell (S .Total)) whe
       × (newCell S (row add) (mine t) ≡ live k (S .plus t amount))
       × (newCell S (row remove) (mine t) ≡ tombstone)
       × (swapAnswer S (row update) (mine t) ≡ changed t)
-      × (swapAnswer S (row add) (mine t) ≡ changed t)
+      × (swapAnswer S (row add) (mine t) ≡ cond (not (S .saturated t) && S .saturated (S .plus t amount)) (capped t) (changed t))
       × (swapAnswer S (row remove) (mine t) ≡ removed t)
-  unfolding newCell swapAnswer fateCell effect
+  unfolding newCell swapAnswer fateCell effect caps
   new-words = (refl, refl, λ kind. refl, refl, refl, refl, refl, refl, refl)

@@ -3,7 +3,7 @@
 -- total is an amount and whether it is saturated (document 01: pinned); the code declares it, in src/lib.rt.
 -- Assumes nothing.
 use Prim.Native.Nat.{ℕ, _+_, min}
-use mathlib.Core.Bool.{Bool, _||_, _&&_, Bool·beq}
+use mathlib.Core.Bool.{Bool, not, _||_, _&&_, Bool·beq}
 use mathlib.Core.List.{List, [], _∷_}
 use lib.Dec.{leb, eqb}
 use Rattle.semantics.specs.declared.Total.{Total}
@@ -16,6 +16,15 @@ heldAt ceiling n was = record { amount = min n ceiling; saturated = was || leb c
 -- "Adding two totals gives their sum, or 65,535 if the sum is larger."
 unfoldable pub plusAt : ℕ → Total → Total → Total
 plusAt ceiling a b = heldAt ceiling (a .amount + b .amount) (a .saturated || b .saturated)
+
+-- "turns a true total into a pinned one" (document 02, "A1"): by whether a total was saturated, and whether it now is
+unfoldable pub caps : Bool → Bool → Bool
+caps was now = not was && now
+
+-- "The sum of two totals must therefore also report whether a true first total became pinned". Of the two only the first is looked at:
+-- 0 + 65,535 is capped, 65,535 + 0 is not.
+unfoldable pub capsAt : ℕ → Total → Total → Bool
+capsAt ceiling a b = caps (a .saturated) (plusAt ceiling a b .saturated)
 
 -- the whole-number sum of some totals, and whether one of them is saturated
 unfoldable pub amounts : List Total → ℕ

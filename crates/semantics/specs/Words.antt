@@ -37,6 +37,7 @@ abbrev pub settingAt : ℕ → ℕ → Setting
 settingAt ceiling c =
     record {
       Total = Total;
+      saturated = λ t. t .saturated;
       plus = plusAt ceiling;
       same = sameTotal;
       sum = sumAt ceiling;
