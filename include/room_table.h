@@ -16,10 +16,14 @@ extern "C" {
  * not live, that is, not from 1 to 65534. */
 uint32_t room_home(uint32_t key, uint32_t c);
 
-/* The sum of two totals, held at 65535. It never fails.
+/* The sum of two totals, held at 65535, and whether it capped the first. It never fails.
  *
- * 65535 where the sum is 65535 or larger. A total of 65535 is pinned: it stands for at least that
- * much, so a sum with a pinned total is pinned too. */
+ * The sum is the lower sixteen bits: 65535 where it is 65535 or larger. A total of 65535 is pinned:
+ * it stands for at least that much, so a sum with a pinned total is pinned too.
+ *
+ * 65536 more, which sets bit 16, where a was a true total, that is, below 65535, and the sum is
+ * pinned. Only a is asked: room_sum(0, 65535) is 131071, and room_sum(65535, 0) is 65535. Where
+ * nothing was capped the result is the sum alone; it is at most 131071. */
 uint32_t room_sum(uint16_t a, uint16_t b);
 
 #ifdef __cplusplus

@@ -3,6 +3,7 @@
 // specification's sentences, in wider numbers and by tests of another kind than the library's.
 #include "room_table.h"
 
+#include <algorithm>
 #include <cinttypes>
 #include <cstdint>
 #include <cstdio>
@@ -51,11 +52,24 @@ void home(std::uint32_t key, std::uint32_t c) {
     expect("room_home", key, c, wanted, room_home(key, c));
 }
 
-// "Adding two totals gives their sum, or 65,535 if the sum is larger."
+std::uint32_t largest_sum = 0; // of all that room_sum gave
+
+void expect_sum(std::uint32_t a, std::uint32_t b, std::uint32_t wanted) {
+    const std::uint32_t got = room_sum(static_cast<std::uint16_t>(a), static_cast<std::uint16_t>(b));
+    largest_sum = std::max(largest_sum, got);
+    expect("room_sum", a, b, wanted, got);
+}
+
+// "Adding two totals gives their sum, or 65,535 if the sum is larger." "Totals 0 to 65,534 are true.
+// Total 65,535 is pinned: at least that much." "The sum of two totals must therefore also report whether
+// a true first total became pinned; the C++ caller gets 65,536 more if so."
 void sum(std::uint32_t a, std::uint32_t b) {
     const std::uint32_t whole = a + b;
-    const std::uint32_t wanted = whole > 65535 ? 65535 : whole;
-    expect("room_sum", a, b, wanted, room_sum(static_cast<std::uint16_t>(a), static_cast<std::uint16_t>(b)));
+    std::uint32_t wanted = whole > 65535 ? 65535 : whole;
+    if (a < 65535 && whole >= 65535) {
+        wanted += 65536;
+    }
+    expect_sum(a, b, wanted);
 }
 
 // Every key, and some that have more than sixteen bits, with each allowed size and its neighbours and
@@ -81,9 +95,25 @@ void check_homes() {
     }
 }
 
-// For every total, the other ones that bring the sum to one number near the ceiling; every total with
-// 0 and with a pinned one; and a million pairs at random, from a seed that is always the same.
+// Sums worked by hand; for every total, the other ones that bring the sum to one number near the
+// ceiling; every total with 0 and with a pinned one, in either order; a million pairs at random, from a
+// seed that is always the same; and what was the largest of all these.
 void check_sums() {
+    check([] {
+        expect_sum(0, 0, 0);
+        expect_sum(65534, 0, 65534);
+        expect_sum(0, 65534, 65534);
+        expect_sum(65534, 1, 131071);
+        expect_sum(1, 65534, 131071);
+        expect_sum(40, 65500, 131071);
+        expect_sum(65534, 65534, 131071);
+        // Only a first total is told of.
+        expect_sum(0, 65535, 131071);
+        expect_sum(65535, 0, 65535);
+        expect_sum(65534, 65535, 131071);
+        expect_sum(65535, 65534, 65535);
+        expect_sum(65535, 65535, 65535);
+    });
     for (std::uint32_t whole = 65535 - 64; whole <= 65535 + 64; ++whole) {
         check([whole] {
             for (std::uint32_t a = 0; a <= 65535; ++a) {
@@ -96,6 +126,7 @@ void check_sums() {
     check([] {
         for (std::uint32_t a = 0; a <= 65535; ++a) {
             sum(a, 0);
+            sum(0, a);
             sum(a, 65535);
             sum(65535, a);
         }
@@ -105,6 +136,12 @@ void check_sums() {
         for (int i = 0; i < 1000000; ++i) {
             const std::uint32_t bits = static_cast<std::uint32_t>(random());
             sum(bits >> 16, bits & 0xffff);
+        }
+    });
+    check([] {
+        if (largest_sum != 131071) {
+            ++wrong;
+            std::printf("the largest sum is %" PRIu32 ", not 131071\n", largest_sum);
         }
     });
 }

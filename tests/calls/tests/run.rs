@@ -1,5 +1,6 @@
-//! Calls of the run: lengths and words that no run file has. Every call is made
-//! of the proved run and of the second model, and all that they leave compared.
+//! Calls of the run: lengths and words that no run file has, and every total
+//! with adds around the ceiling. Every call is made of the proved run and of the
+//! second model, and all that they leave compared.
 
 use generated::files::case;
 use generated::random::Random;
@@ -59,9 +60,10 @@ fn adds(count: usize) -> Call {
     }
 }
 
-/// Makes the call twice. A refused call leaves every slice as it was; an
-/// accepted one keeps the answers and log bytes past those that it writes.
-fn made(call: &Call) -> Outcome {
+/// Makes the call twice and gives what it returns and leaves. A refused call
+/// leaves every slice as it was; an accepted one keeps the answers and log bytes
+/// past those that it writes.
+fn made_and_left(call: &Call) -> (Outcome, Call) {
     let (mut proved, mut model) = (call.clone(), call.clone());
     let outcome = calls::run(
         &mut proved.cells,
@@ -87,7 +89,11 @@ fn made(call: &Call) -> Outcome {
         assert_eq!(proved.answers[written..], call.answers[written..]);
         assert_eq!(proved.log[outcome.done..], call.log[outcome.done..]);
     }
-    outcome
+    (outcome, proved)
+}
+
+fn made(call: &Call) -> Outcome {
+    made_and_left(call).0
 }
 
 fn refusal(call: &Call) -> (u32, usize) {
@@ -108,19 +114,93 @@ fn the_call_that_the_others_change_is_accepted() {
 fn operations_without_entries() {
     let mut call = accepted();
     call.schedule.clear();
-    let outcome = made(&call);
+    let (outcome, left) = made_and_left(&call);
     assert_eq!((outcome.number, outcome.place), (0, 0));
     assert_eq!((outcome.done, outcome.lost, outcome.idle), (0, 0, 0));
-    let mut left = call.clone();
-    calls::run(
-        &mut left.cells,
-        &left.operations,
-        &left.schedule,
-        &mut left.answers,
-        &mut left.log,
-    );
     call.answers[..3].fill(0);
     assert_eq!(left, call);
+}
+
+const INSERTED: u32 = 2 * 65_536;
+
+fn changed(total: u32) -> u32 {
+    4 * 65_536 + total
+}
+
+/// "Now finishes capped (code 8) with the old total."
+fn capped(total: u32) -> u32 {
+    8 * 65_536 + total
+}
+
+/// One add to room 1, which has this total: the add's answer, and the total that
+/// the room has then.
+fn added(total: u32, amount: u32) -> (u32, u32) {
+    let mut call = accepted();
+    call.cells[4] = cell(1, total);
+    call.operations = vec![operation(ADD, 1, u64::from(amount))];
+    call.schedule = vec![0, 0];
+    let (outcome, left) = made_and_left(&call);
+    assert_eq!((outcome.done, outcome.lost, outcome.idle), (1, 0, 0));
+    assert_eq!(left.cells[4] / 65_536, 1, "{total} and {amount}");
+    (left.answers[0], left.cells[4] % 65_536)
+}
+
+/// "An add that turns a true total into a pinned one": every true total with the
+/// amounts that bring it to one below the ceiling, to it and above it.
+#[test]
+fn an_add_to_every_true_total() {
+    for total in 0..=65_534 {
+        let missing = 65_535 - total;
+        assert_eq!(added(total, missing - 1), (changed(total), 65_534));
+        assert_eq!(added(total, missing), (capped(total), 65_535));
+        if total > 0 {
+            assert_eq!(added(total, missing + 1), (capped(total), 65_535));
+            assert_eq!(added(total, 65_535), (capped(total), 65_535));
+        }
+    }
+}
+
+/// A pinned total does not become one.
+#[test]
+fn every_add_to_a_pinned_total() {
+    for amount in 0..=65_535 {
+        assert_eq!(added(65_535, amount), (changed(65_535), 65_535));
+    }
+}
+
+/// Where there was no total, none was turned into a pinned one.
+#[test]
+fn an_add_that_inserts_a_pinned_amount() {
+    let mut call = accepted();
+    call.operations = vec![operation(ADD, 17, 65_535)];
+    call.schedule = vec![0; 4];
+    let (outcome, left) = made_and_left(&call);
+    assert_eq!((outcome.done, outcome.lost, outcome.idle), (1, 0, 0));
+    // Behind rooms 1 and 9, which have the same home.
+    assert_eq!(left.answers[0], INSERTED);
+    assert_eq!(left.cells[6], cell(17, 65_535));
+}
+
+/// Two adds hold room 1 with 40, the second loses its swap and reads again. What
+/// it is answered is told by the total that it reads then.
+#[test]
+fn adds_around_the_ceiling_that_lost_a_swap() {
+    for (first, second, answers) in [
+        (5, 65_489, [changed(40), changed(45)]),
+        (5, 65_490, [changed(40), capped(45)]),
+        (5, 65_495, [changed(40), capped(45)]),
+        (65_494, 1, [changed(40), capped(65_534)]),
+        (65_495, 0, [capped(40), changed(65_535)]),
+        (65_495, 65_495, [capped(40), changed(65_535)]),
+        (65_535, 65_535, [capped(40), changed(65_535)]),
+    ] {
+        let mut call = accepted();
+        call.operations = vec![operation(ADD, 1, first), operation(ADD, 1, second)];
+        call.schedule = vec![0, 1, 0, 1, 1, 1];
+        let (outcome, left) = made_and_left(&call);
+        assert_eq!((outcome.done, outcome.lost, outcome.idle), (2, 1, 0));
+        assert_eq!(left.answers[..2], answers, "{first} and {second}");
+    }
 }
 
 #[test]

@@ -9,18 +9,25 @@ use crate::recipes::RECIPES;
 
 /// Lines of the table: a title and its items. Behind a colon stand the places
 /// at which an item must occur: `f` first, `m` a middle one, `l` last. `X>Y` is
-/// a record with mark X behind one with mark Y.
+/// a record with mark X behind one with mark Y. `true to 65535 capped` is an add
+/// that found a true total, made it 65,535 and was answered capped; `X then Y`
+/// one that would have been answered X had it not lost its swap, and then was
+/// answered Y.
 #[rustfmt::skip]
 const LINES: &[(&str, &str)] = &[
     ("kinds", "find, insert, update, add, remove"),
-    ("answers", "unfinished, found, inserted, present, changed, removed, absent, full"),
+    ("answers", "unfinished, found, inserted, present, changed, removed, absent, full, capped"),
     ("of find", "unfinished, found, absent"),
     ("of insert", "unfinished, inserted, present, full"),
     ("of update", "unfinished, changed, absent"),
-    ("of add", "unfinished, inserted, changed, full"),
+    ("of add", "unfinished, inserted, changed, full, capped"),
     ("of remove", "unfinished, removed, absent"),
-    ("accepted with", "lost swaps, idle entries, unfinished, all finished, wraparound, sum 65534, sum 65535, sum above, \
-        tombstone passed, key stored again, ended full, totals rule, 65535 bytes, 64 rows, 16384 entries"),
+    ("adds around the ceiling", "true to 65534 changed, true to 65535 capped, true above capped, true by pinned capped, \
+        0 by pinned capped, pinned by 0 changed, pinned by true changed, pinned by pinned changed, pinned inserted"),
+    ("adds retried", "changed then capped, inserted then capped, capped then capped, capped then changed, \
+        capped then changed pinned, capped then inserted"),
+    ("accepted with", "lost swaps, idle entries, unfinished, all finished, wraparound, tombstone passed, key stored again, \
+        ended full, totals rule, 65535 bytes, 64 rows, 16384 entries"),
     ("refused, of", "single, pair, prefix, mutated, shuffled, noise, sized"),
     ("accepted, k", "3, 4, 5, 6, 7, 8, 9, 10, 11, 12"),
     ("accepted, has", "none, CL, OP, CL OP, OP SC, CL OP SC"),

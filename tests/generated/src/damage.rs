@@ -4,7 +4,7 @@
 use crate::pairs::{base, parts};
 use crate::plan::split;
 use crate::random::Random;
-use crate::recipes::{plan, LARGE, PLAIN, RECIPES};
+use crate::recipes::{plan, LARGE, PLAIN, RECIPES, SMALL};
 use crate::spoil::{Spoiled, PLACES};
 
 const READER: &[&str] = &["10m", "9", "10b", "11", "2"];
@@ -57,8 +57,7 @@ pub fn prefix(seed: u64, number: usize) -> Vec<u8> {
 
 /// A file of any recipe with a few bytes changed, put in or taken out.
 pub fn mutated(random: &mut Random) -> Vec<u8> {
-    // The recipes of large files stand at the end of the table.
-    let mut file = plan(&RECIPES[random.below(12)], random).file(random);
+    let mut file = plan(&RECIPES[random.below(SMALL)], random).file(random);
     for _ in 0..random.between(1, 2) {
         let at = random.below(file.len());
         let byte = match random.percent(50) {

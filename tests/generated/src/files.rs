@@ -5,7 +5,7 @@ use crate::fixed::{fixed, Fixed};
 use crate::pairs::{pair, Pair};
 use crate::plan::Plan;
 use crate::random::Random;
-use crate::recipes::{plan, RECIPES};
+use crate::recipes::{plan, RECIPES, SMALL};
 use crate::sizes::sized;
 
 /// A generated file, and what is known of it.
@@ -81,7 +81,7 @@ fn made(family: &'static str, number: usize, seed: u64, random: &mut Random) -> 
 
 /// A run with no CL, no OP, no SC, or any of these together.
 fn without_parts(number: usize, random: &mut Random) -> Plan {
-    let mut plan = plan(&RECIPES[random.below(12)], random);
+    let mut plan = plan(&RECIPES[random.below(SMALL)], random);
     if number & 1 != 0 {
         plan.cells.clear();
     }

@@ -27,7 +27,7 @@ const RUN_IN_FULL: &[u8] =
     SC\x0C\x00\x01\x02\x00\x01\x02\x01\x01\x02\x02\x01\x00";
 const ITS_TEXT: &str =
     "rows 3 done 3 lost 2 idle 1\nrow 0 add 1 40 inserted 0\nrow 1 add 9 25 inserted 0\n\
-    row 2 add 1 65500 changed 40\nlog 0 2 1\ncell 4 1 pinned\ncell 5 9 25\n";
+    row 2 add 1 65500 capped 40\nlog 0 2 1\ncell 4 1 pinned\ncell 5 9 25\n";
 
 /// As many additions of 1 to room 1 as asked for, one after the other.
 fn additions(rows: usize, entries: usize, random: &mut Random) -> Vec<u8> {

@@ -1,6 +1,7 @@
 //! Run files of every sort from a seed, and their comparison: what a program writes for each with what
 //! the second model says.
 
+mod ceiling;
 mod classify;
 pub mod compare;
 mod coverage;

@@ -1,5 +1,6 @@
 //! What a file and the text that the program wrote for it have shown.
 
+use crate::ceiling;
 use crate::classify::{classify, numbers, Start};
 use crate::coverage::{pair_title, Coverage};
 use crate::files::Case;
@@ -50,12 +51,12 @@ fn has_second(pair: &Pair, place: usize) -> bool {
 }
 
 /// One line of an operation ("row") in a text.
-struct Line<'a> {
-    kind: &'a str,
-    key: u16,
-    amount: u16,
-    answer: &'a str,
-    total: u16,
+pub struct Line<'a> {
+    pub kind: &'a str,
+    pub key: u16,
+    pub amount: u16,
+    pub answer: &'a str,
+    pub total: u16,
 }
 
 fn total(text: &str) -> Option<u16> {
@@ -88,15 +89,13 @@ pub fn accepted(case: &Case, start: &Start, text: &[u8], coverage: &mut Coverage
         coverage.note("answers", line.answer, ' ');
         coverage.note(&format!("of {}", line.kind), line.answer, ' ');
     }
+    ceiling::adds(start, &lines, coverage);
     let passed = |line| passes_tombstone(start, line);
     let shown = [
         (
             "wraparound",
             stored(start, &text).any(|(at, home)| at < home),
         ),
-        ("sum 65534", added(&lines, |sum| sum == 65_534)),
-        ("sum 65535", added(&lines, |sum| sum == 65_535)),
-        ("sum above", added(&lines, |sum| sum > 65_535)),
         ("tombstone passed", lines.iter().any(passed)),
         ("key stored again", stored_again(&lines)),
         ("ended full", lines.iter().any(|line| line.answer == "full")),
@@ -126,16 +125,6 @@ fn counted(text: &str) -> Vec<(&'static str, bool)> {
         ("unfinished", done != rows),
         ("all finished", done == rows && rows != "0"),
     ]
-}
-
-/// Whether an add made such a sum of a total and an amount that both are true,
-/// not saturated ("pinned") before.
-fn added(lines: &[Line], sums: impl Fn(u32) -> bool) -> bool {
-    lines.iter().any(|line| {
-        let (total, amount) = (u32::from(line.total), u32::from(line.amount));
-        let changed = line.kind == "add" && line.answer == "changed";
-        changed && total.max(amount) < 65_535 && sums(total + amount)
-    })
 }
 
 /// The cells that were empty at the start and hold a key now, with its home.

@@ -73,6 +73,8 @@ pub const RECIPES: &[Recipe] = &[
     Recipe { used: (10, 70), length: Length::Each(2, 9), ..recipe("wraparound", &[3, 4, 6], Homes::End) },
     Recipe { keys: (1, 2), gone: 0, kinds: &[4, 4, 4, 3, 1, 5], totals: EDGE,
              ..recipe("saturation", &[3], Homes::Any) },
+    Recipe { keys: (1, 1), used: (20, 60), gone: 0, operations: (2, 5), kinds: &[4, 4, 4, 3, 5], totals: EDGE,
+             length: Length::Each(3, 8), ..recipe("race to the ceiling", &[3], Homes::Any) },
     Recipe { operations: (1, 3), length: Length::Each(10, 40), ..recipe("idle", &[3, 4], Homes::Near(2)) },
     Recipe { operations: (3, 20), used: (30, 90), length: Length::Each(0, 2),
              ..recipe("unfinished", &[3, 4, 5], Homes::Near(2)) },
@@ -87,6 +89,9 @@ pub const RECIPES: &[Recipe] = &[
     Recipe { used: (97, 100), operations: (2, 8), length: Length::Round,
              ..recipe("long probes", &[6, 7, 8], Homes::End) },
 ];
+
+/// How many recipes of files that are not large come first in the table.
+pub const SMALL: usize = 13;
 
 /// What the faults are put into: several records of each kind, some cells
 /// empty and some live, and not a large file.

@@ -58,7 +58,12 @@ impl Map {
             }
             (4, Some(total)) => {
                 self.pairs.insert(key, held(total + amount));
-                (4, total)
+                // What the total leaves below the ceiling: nothing where it is
+                // pinned already. The add that uses all of it up "hit the
+                // ceiling", capped; any other is changed.
+                let left = MOST - total;
+                let code = if left > 0 && amount >= left { 8 } else { 4 };
+                (code, total)
             }
             (5, Some(total)) => {
                 self.pairs.remove(&key);

@@ -7,7 +7,7 @@ use crate::word::{key_of, total_of, EMPTY, SATURATED, TOMBSTONE};
 const KINDS: [&str; 5] = ["find", "insert", "update", "add", "remove"];
 
 /// The names of the answers, from code 0.
-const ANSWERS: [&str; 8] = [
+const ANSWERS: [&str; 9] = [
     "unfinished",
     "found",
     "inserted",
@@ -16,6 +16,7 @@ const ANSWERS: [&str; 8] = [
     "removed",
     "absent",
     "full",
+    "capped",
 ];
 
 /// Appends the text of a run, from its outcome and the slices as the run left

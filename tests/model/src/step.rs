@@ -1,6 +1,6 @@
 //! One atomic step of one operation.
 
-use crate::word::{is_live, key_of, pack, total_of, Homes, EMPTY, TOMBSTONE};
+use crate::word::{became_saturated, is_live, key_of, pack, total_of, Homes, EMPTY, TOMBSTONE};
 
 #[derive(Clone, Copy, Debug, PartialEq, Eq)]
 pub(crate) enum Kind {
@@ -60,6 +60,12 @@ pub(crate) mod answer {
 
     pub(crate) fn removed(total: u16) -> u32 {
         pack(5, total)
+    }
+
+    /// Of the add "that turns a true total into a pinned one"; the total is the
+    /// old one.
+    pub(crate) fn capped(total: u16) -> u32 {
+        pack(8, total)
     }
 }
 
@@ -156,7 +162,14 @@ impl Progress {
         } else {
             match kind {
                 Kind::Remove => (TOMBSTONE, answer::removed(old)),
-                Kind::Add => (pack(key, old.saturating_add(amount)), answer::changed(old)),
+                Kind::Add => {
+                    let new = old.saturating_add(amount);
+                    if became_saturated(old, new) {
+                        (pack(key, new), answer::capped(old))
+                    } else {
+                        (pack(key, new), answer::changed(old))
+                    }
+                }
                 _ => (pack(key, amount), answer::changed(old)),
             }
         };

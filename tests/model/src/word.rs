@@ -12,6 +12,10 @@ pub(crate) const SATURATED: u16 = u16::MAX;
 /// What `home` gives where the key or the number of cells is not allowed.
 const NO_HOME: u32 = 65_535;
 
+/// What `sum` gives besides the total where the first total has become
+/// saturated ("the C++ caller gets 65,536 more if so").
+const CAPPED: u32 = 65_536;
+
 pub(crate) const fn pack(key: u16, total: u16) -> u32 {
     (key as u32) << 16 | total as u32
 }
@@ -27,6 +31,12 @@ pub(crate) fn total_of(word: u32) -> u16 {
 
 pub(crate) fn is_live(key: u16) -> bool {
     key != 0 && key != u16::MAX
+}
+
+/// Whether a total became saturated and was not so before ("turns a true total
+/// into a pinned one").
+pub(crate) fn became_saturated(before: u16, after: u16) -> bool {
+    before != SATURATED && after == SATURATED
 }
 
 /// Whether a table may have this many cells.
@@ -62,7 +72,10 @@ pub fn home(key: u32, c: u32) -> u32 {
     }
 }
 
-/// The sum of two totals, saturated ("pinned") at 65,535.
+/// The sum of two totals, saturated ("pinned") at 65,535, and 65,536 more where
+/// "a true first total became pinned". The second total's own pin is not asked
+/// for, so that `sum(a, b)` and `sum(b, a)` may differ.
 pub fn sum(a: u16, b: u16) -> u32 {
-    u32::from(a.saturating_add(b))
+    let total = a.saturating_add(b);
+    u32::from(total) + CAPPED * u32::from(became_saturated(a, total))
 }

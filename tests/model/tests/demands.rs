@@ -36,6 +36,31 @@ fn two_adds() -> (Vec<u32>, [u64; 2], After) {
     (table(8, &[(4, 1, 40)]), operations, after)
 }
 
+/// Two adds of which the first hits the ceiling, as they end.
+fn capped_and_changed() -> (Vec<u32>, [u64; 2], After) {
+    let after = After {
+        done: 2,
+        cells: table(8, &[(4, 1, 65_535)]),
+        answers: vec![answer("capped", 40), answer("changed", 65_535)],
+        log: vec![0, 1],
+    };
+    let operations = [operation("add", 1, 65_495), operation("add", 1, 65_535)];
+    (table(8, &[(4, 1, 40)]), operations, after)
+}
+
+/// An add to one below the ceiling and an insertion of a pinned amount, as they
+/// end.
+fn below_and_inserted() -> (Vec<u32>, [u64; 2], After) {
+    let after = After {
+        done: 2,
+        cells: table(8, &[(4, 1, 65_534), (5, 9, 65_535)]),
+        answers: vec![answer("changed", 40), answer("inserted", 0)],
+        log: vec![0, 1],
+    };
+    let operations = [operation("add", 1, 65_494), operation("add", 9, 65_535)];
+    (table(8, &[(4, 1, 40)]), operations, after)
+}
+
 /// The checker says that the case, spoiled so, differs from the map in this.
 fn assert_differs(
     (start, operations, mut after): (Vec<u32>, [u64; 2], After),
@@ -49,7 +74,12 @@ fn assert_differs(
 
 #[test]
 fn right_ends_agree_with_the_map() {
-    for (start, operations, after) in [removed_and_present(), two_adds()] {
+    for (start, operations, after) in [
+        removed_and_present(),
+        two_adds(),
+        capped_and_changed(),
+        below_and_inserted(),
+    ] {
         assert_eq!(agrees_with_map(&start, &operations, &after), Ok(()));
     }
 }
@@ -90,6 +120,33 @@ fn wrong_answers_are_rejected() {
             after.done = 1;
         },
         "operation 1 is unfinished, answer 3",
+    );
+}
+
+#[test]
+fn a_capped_answer_is_right_only_where_an_add_hit_the_ceiling() {
+    let at_it = |spoil, what| assert_differs(capped_and_changed(), spoil, what);
+    at_it(
+        |after| after.answers[0] = answer("changed", 40),
+        "operation 0 answers code 4 total 40, the map code 8 total 40",
+    );
+    // The total of a capped answer is the old one.
+    at_it(
+        |after| after.answers[0] = answer("capped", 65_535),
+        "operation 0 answers code 8 total 65535, the map code 8 total 40",
+    );
+    at_it(
+        |after| after.answers[1] = answer("capped", 65_535),
+        "operation 1 answers code 8 total 65535, the map code 4 total 65535",
+    );
+    let below_it = |spoil, what| assert_differs(below_and_inserted(), spoil, what);
+    below_it(
+        |after| after.answers[0] = answer("capped", 40),
+        "operation 0 answers code 8 total 40, the map code 4 total 40",
+    );
+    below_it(
+        |after| after.answers[1] = answer("capped", 0),
+        "operation 1 answers code 8 total 0, the map code 2 total 0",
     );
 }
 
@@ -194,6 +251,26 @@ fn every_short_schedule_agrees_with_the_map_at_every_prefix() {
             assert_eq!(at_prefixes, Ok(()), "{cells:?} {operations:?} {schedule:?}");
             assert_eq!(linearizable(&cells, &operations, schedule), Ok(()));
         });
+    }
+}
+
+#[test]
+fn adds_around_the_ceiling_agree_with_the_map() {
+    // Totals and amounts whose sums lie on either side of 65,535, the most and
+    // the least of each included; two adds, so that the second starts from what
+    // the first has made.
+    let near = [0, 1, 2, 3, 32_767, 32_768, 65_532, 65_533, 65_534, 65_535];
+    for total in near {
+        let cells = table(8, &[(4, 1, total as u32)]);
+        for first in near {
+            for second in near {
+                let operations = [operation("add", 1, first), operation("add", 1, second)];
+                for schedule in [[0, 0, 1, 1, 1, 1], [0, 1, 0, 1, 1, 1], [1, 0, 1, 0, 0, 0]] {
+                    let at_prefixes = linearizable_at_every_prefix(&cells, &operations, &schedule);
+                    assert_eq!(at_prefixes, Ok(()), "{total} {first} {second} {schedule:?}");
+                }
+            }
+        }
     }
 }
 

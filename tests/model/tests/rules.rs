@@ -40,12 +40,45 @@ fn sums_are_whole_or_pinned() {
         (0, 0, 0),
         (30_000, 30_000, 60_000),
         (1, 65_533, 65_534),
-        (40_000, 40_000, 65_535),
-        (0, 65_535, 65_535),
+        (40_000, 40_000, 131_071),
+        (0, 65_535, 131_071),
         (65_535, 65_535, 65_535),
     ];
     for (a, b, expected) in worked {
         assert_eq!(sum(a, b), expected, "{a} + {b}");
+    }
+}
+
+#[test]
+fn sums_near_the_ceiling_tell_whether_the_first_total_became_pinned() {
+    for a in 0..=65_535_u16 {
+        for whole in 65_530..=65_540_u32 {
+            // Not every whole sum can be had with this total.
+            let Some(b) = whole.checked_sub(u32::from(a)) else {
+                continue;
+            };
+            let Ok(b) = u16::try_from(b) else {
+                continue;
+            };
+            let expected = match whole {
+                ..=65_534 => whole,
+                _ if a == 65_535 => 65_535,
+                _ => 131_071,
+            };
+            assert_eq!(sum(a, b), expected, "{a} + {b}");
+        }
+    }
+}
+
+#[test]
+fn only_the_first_total_of_a_sum_is_told_of() {
+    for true_total in 0..=65_534 {
+        assert_eq!(sum(true_total, 65_535), 131_071, "{true_total} + pinned");
+        assert_eq!(sum(65_535, true_total), 65_535, "pinned + {true_total}");
+    }
+    // Of two true totals either may come first.
+    for (a, b) in [(0, 65_534), (1, 65_534), (2, 65_534), (30_000, 40_000)] {
+        assert_eq!(sum(a, b), sum(b, a), "{a} and {b}");
     }
 }
 
@@ -324,7 +357,7 @@ fn cells_passed_before_a_lost_swap_stay_passed() {
 /// both are listed.
 type Line = ((&'static str, u64), (&'static str, u32), &'static str);
 
-const LINES: [Line; 8] = [
+const LINES: [Line; 9] = [
     (("find", 0), ("found", 65_535), "find 1 0 found pinned"),
     (
         ("insert", 65_535),
@@ -341,6 +374,11 @@ const LINES: [Line; 8] = [
     (("find", 0), ("absent", 0), "find 1 0 absent 0"),
     (("find", 0), ("unfinished", 0), "find 1 0 unfinished 0"),
     (("insert", 909), ("full", 0), "insert 1 909 full 0"),
+    (
+        ("add", 65_535),
+        ("capped", 65_534),
+        "add 1 pinned capped 65534",
+    ),
 ];
 
 #[test]
@@ -353,7 +391,7 @@ fn every_kind_and_answer_is_listed() {
         idle: 10,
     };
     let (mut operations, mut answers) = (vec![], vec![]);
-    let mut expected = String::from("text\nrows 8 done 3 lost 12345 idle 10\n");
+    let mut expected = String::from("text\nrows 9 done 3 lost 12345 idle 10\n");
     for (number, ((kind, amount), (name, total), line)) in LINES.into_iter().enumerate() {
         operations.push(operation(kind, 1, amount));
         answers.push(answer(name, total));

@@ -1,5 +1,6 @@
 //! Every case that the specification works out, in its order and with every
-//! number it states. Tables have 8 cells where no other number stands.
+//! number it states; behind them the adds that hit the ceiling, document 02's
+//! A1, and their neighbours. Tables have 8 cells where no other number stands.
 
 mod support {
     pub mod answers;
@@ -44,7 +45,8 @@ fn homes_in_eight_cells() {
 #[test]
 fn sums_near_the_most() {
     assert_eq!(sum(65_534, 0), 65_534);
-    assert_eq!(sum(65_534, 1), 65_535);
+    // A true first total became pinned: 65,536 more.
+    assert_eq!(sum(65_534, 1), 65_535 + 65_536);
     assert_eq!(sum(65_535, 0), 65_535);
 }
 
@@ -62,7 +64,7 @@ fn run_in_full_text() {
     let expected = "rows 3 done 3 lost 2 idle 1\n\
                     row 0 add 1 40 inserted 0\n\
                     row 1 add 9 25 inserted 0\n\
-                    row 2 add 1 65500 changed 40\n\
+                    row 2 add 1 65500 capped 40\n\
                     log 0 2 1\n\
                     cell 4 1 pinned\n\
                     cell 5 9 25\n";
@@ -86,7 +88,7 @@ fn run_in_full_slices() {
         &[
             answer("inserted", 0),
             answer("inserted", 0),
-            answer("changed", 40),
+            answer("capped", 40),
         ],
         &[0, 2, 1],
         &table(8, &[(4, 1, 65_535), (5, 9, 25)]),
@@ -395,4 +397,163 @@ fn operations_without_entries_text() {
                     cell 4 1 40\n\
                     cell 5 gone\n";
     assert_eq!(text(&file.concat()), expected);
+}
+
+/// One operation alone on room 1, which has this total: its answer has the old
+/// total, and the room has the new one.
+fn assert_room_one(total: u32, operation: u64, name: &str, new: u32) {
+    assert_leaves(
+        Call::new(table(8, &[(4, 1, total)]), &[operation], &[0, 0]),
+        [1, 0, 0],
+        &[answer(name, total)],
+        &[0],
+        &table(8, &[(4, 1, new)]),
+    );
+}
+
+#[test]
+fn an_add_that_pins_a_true_total_is_capped_with_the_old_total() {
+    let worked = [
+        // To 65,535 and no further.
+        (65_534, 1),
+        (40, 65_495),
+        (1, 65_534),
+        (0, 65_535),
+        // Above.
+        (65_534, 2),
+        (40, 65_496),
+        (40_000, 40_000),
+        (65_534, 65_534),
+        // A pinned amount, which is at least 65,535.
+        (40, 65_535),
+        (65_534, 65_535),
+    ];
+    for (total, amount) in worked {
+        assert_room_one(total, operation("add", 1, amount), "capped", 65_535);
+    }
+}
+
+#[test]
+fn an_add_that_leaves_the_total_true_is_changed() {
+    for (total, amount, new) in [
+        (65_534, 0, 65_534),
+        (65_533, 1, 65_534),
+        (40, 65_494, 65_534),
+        (0, 65_534, 65_534),
+        (0, 0, 0),
+    ] {
+        assert_room_one(total, operation("add", 1, amount), "changed", new);
+    }
+}
+
+#[test]
+fn an_add_to_a_pinned_total_is_changed() {
+    for amount in [0, 1, 65_534, 65_535] {
+        let add = operation("add", 1, amount);
+        assert_room_one(65_535, add, "changed", 65_535);
+    }
+}
+
+#[test]
+fn an_update_to_a_pinned_amount_is_changed() {
+    // Only an add is capped.
+    for total in [0, 40, 65_534, 65_535] {
+        let update = operation("update", 1, 65_535);
+        assert_room_one(total, update, "changed", 65_535);
+    }
+}
+
+#[test]
+fn an_add_that_inserts_a_pinned_amount_is_inserted() {
+    // There was no total to turn into a pinned one.
+    assert_leaves(
+        Call::new(table(8, &[]), &[operation("add", 1, 65_535)], &[0, 0]),
+        [1, 0, 0],
+        &[answer("inserted", 0)],
+        &[0],
+        &table(8, &[(4, 1, 65_535)]),
+    );
+}
+
+#[test]
+fn adds_around_the_ceiling_text() {
+    let file = [
+        tb(3),
+        cl(4, 1, 65_533),
+        op(4, 1, 1),
+        op(4, 1, 1),
+        op(4, 1, 1),
+        op(4, 9, 65_535),
+        sc(&[0, 0, 1, 1, 2, 2, 3, 3, 3]),
+    ];
+    let expected = "rows 4 done 4 lost 0 idle 0\n\
+                    row 0 add 1 1 changed 65533\n\
+                    row 1 add 1 1 capped 65534\n\
+                    row 2 add 1 1 changed pinned\n\
+                    row 3 add 9 pinned inserted 0\n\
+                    log 0 1 2 3\n\
+                    cell 4 1 pinned\n\
+                    cell 5 9 pinned\n";
+    assert_eq!(text(&file.concat()), expected);
+}
+
+/// Room 1 has total 40, and both operations hold that word. Operation 0 swaps
+/// first, operation 1 loses its swap once, reads again and swaps: their answers
+/// and the room's total after both.
+fn assert_second_retries(operations: [u64; 2], answers: [u32; 2], total: u32) {
+    assert_leaves(
+        Call::new(table(8, &[(4, 1, 40)]), &operations, &[0, 1, 0, 1, 1, 1]),
+        [2, 1, 0],
+        &answers,
+        &[0, 1],
+        &table(8, &[(4, 1, total)]),
+    );
+}
+
+#[test]
+fn a_retried_add_is_capped_with_the_total_that_it_read_again() {
+    // 40 + 65,490 would be true; 45 + 65,490 is not.
+    assert_second_retries(
+        [operation("add", 1, 5), operation("add", 1, 65_490)],
+        [answer("changed", 40), answer("capped", 45)],
+        65_535,
+    );
+    // It would have been capped at first too, but with 40.
+    assert_second_retries(
+        [operation("add", 1, 5), operation("add", 1, 65_500)],
+        [answer("changed", 40), answer("capped", 45)],
+        65_535,
+    );
+}
+
+#[test]
+fn of_two_adds_that_would_both_be_capped_the_first_is() {
+    assert_second_retries(
+        [operation("add", 1, 65_500), operation("add", 1, 65_510)],
+        [answer("capped", 40), answer("changed", 65_535)],
+        65_535,
+    );
+}
+
+#[test]
+fn a_retried_add_that_leaves_the_total_true_is_changed() {
+    // 40 + 65,500 would be pinned; 3 + 65,500 is not.
+    assert_second_retries(
+        [operation("update", 1, 3), operation("add", 1, 65_500)],
+        [answer("changed", 40), answer("changed", 3)],
+        65_503,
+    );
+}
+
+#[test]
+fn a_retried_add_whose_room_was_removed_is_inserted() {
+    let operations = [operation("remove", 1, 0), operation("add", 1, 65_535)];
+    assert_leaves(
+        // The add passes the tombstone and fills cell 5.
+        Call::new(table(8, &[(4, 1, 40)]), &operations, &[0, 1, 0, 1, 1, 1, 1]),
+        [2, 1, 0],
+        &[answer("removed", 40), answer("inserted", 0)],
+        &[0, 1],
+        &table(8, &[(4, 65_535, 0), (5, 1, 65_535)]),
+    );
 }

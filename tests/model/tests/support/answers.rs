@@ -9,6 +9,7 @@ pub fn answer(name: &str, total: u32) -> u32 {
         "removed",
         "absent",
         "full",
+        "capped",
     ];
     let code = codes.iter().position(|&code| code == name).unwrap() as u32;
     code * 65_536 + total
