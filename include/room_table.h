@@ -12,7 +12,7 @@ extern "C" {
 /* The home of a key in a table of c cells: the cell, from 0 to c - 1, at which the search for the
  * key begins. It is (key * 40503) mod 65536, divided by (65536 / c), rounded down.
  *
- * 65535, which is never a cell, where c is not a power of two from 8 to 4096, or where the key is
+ * 65535, which is never a cell, where c is not a power of two from 1 to 4096, or where the key is
  * not live, that is, not from 1 to 65534. */
 uint32_t room_home(uint32_t key, uint32_t c);
 

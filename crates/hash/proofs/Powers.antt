@@ -2,14 +2,14 @@
 -- Assumes nothing.
 use mathlib.Core.Path.{_≡_, refl, sym, ap, subst, _∙_}
 use Prim.Native.Nat.{ℕ, zero, suc, _+_, _-_, _*_, _/_, _%_, _^_, _<_, zero-le}
-use native.Mathlib.Nat.{add-zero, add-suc, suc-add, mul-comm, mul-div-cancel, mul-div-mul-right, pow-suc}
+use native.Mathlib.Nat.{zero-add, add-zero, add-suc, suc-add, mul-comm, mul-div-cancel, mul-div-mul-right, pow-suc}
 use native.Mathlib.Omega.{arith}
 use lib.Dec.{T, ltb, leb·suc-suc}
 use lib.Pow.{pow-add, pow-pos, pow-lt}
 use lib.Count.{ones, trailingZeros, under, ones-step, ones-cat, ones-le}
 use borrow.Author.Tests.{eq-eqb, ne-eqb, lt-ltb, le-ltb}
 use Rattle.semantics.specs.Words.{isPowerFrom, sizeAllowed, hashOf, homeIn, scaledHome}
-use Rattle.semantics.proofs.Sizes.{power}
+use Rattle.semantics.proofs.Sizes.{allowed-power}
 
 -- a power has one bit set
 pub ones-pow : (t : ℕ) → ones (2 ^ t) ≡ 1
@@ -34,13 +34,17 @@ one-bit (suc w) n h e = go (one-bit w (n / 2) (omega (arith, pow-suc 2 w))) (n %
     go rest (suc d) q = omega (arith, no-bit w (n / 2) (omega (arith, pow-suc 2 w)) (omega (arith, ones-step n)))
 
 -- of the powers from 2 ^ k on, the first n pass
-pub at-power : (k n d : ℕ) → isPowerFrom k n (2 ^ (k + d)) ≡ ltb d n
+at-power : (k n d : ℕ) → isPowerFrom k n (2 ^ (k + d)) ≡ ltb d n
 unfolding isPowerFrom
 at-power k zero d = sym (le-ltb d 0 zero-le)
 at-power k (suc n) zero = rw (add-zero k, eq-eqb (2 ^ k) (2 ^ k) refl) (sym (lt-ltb 0 (suc n) (omega arith)))
 at-power k (suc n) (suc d) =
     let above : 2 ^ k < 2 ^ (k + suc d) = pow-lt (omega arith) in
     rw (ne-eqb (2 ^ (k + suc d)) (2 ^ k) (λ q. omega arith), add-suc k d, ← suc-add k d, at-power (suc k) n d, leb·suc-suc (suc d) n)
+
+pub power-allowed : (t : ℕ) → sizeAllowed (2 ^ t) ≡ ltb t 13
+unfolding sizeAllowed
+power-allowed t = ap (λ n. isPowerFrom 0 13 (2 ^ n)) (sym (zero-add t)) ∙ at-power 0 13 t
 
 -- sixteen bits scaled to 2 ^ j are shared out over as many cells
 scaled : (j r x : ℕ) → j + r ≡ 16 → x * 2 ^ j / 65536 ≡ x / (65536 / 2 ^ j)
@@ -50,8 +54,8 @@ scaled j r x e =
     ap (λ n. x * 2 ^ j / n) whole ∙ mul-div-mul-right x (2 ^ r) (pow-pos j) ∙ ap (λ n. x / n) (sym part)
 
 pub home-is : (c k : ℕ) → T (sizeAllowed c) → scaledHome c k ≡ homeIn c k
-unfolding sizeAllowed homeIn scaledHome
+unfolding homeIn scaledHome
 home-is c k h =
-    let p = power 3 10 c h in
+    let p = allowed-power c h in
     let x = hashOf k in
     subst (λ n. x * n / 65536 ≡ x / (65536 / n)) (sym (p .is)) (scaled (p .exponent) (16 - p .exponent) x (omega (arith, p .low, p .high)))

@@ -2,27 +2,17 @@
 // the hash of the key gives, where a search begins. Every function takes every input.
 ghost use mathlib.Core.Path.{_≡_};
 ghost use mathlib.Core.Bool.{true};
-ghost use Rattle.semantics.specs.Words.{isPowerFrom, sizeAllowed, homeIn, scaledHome};
+ghost use Rattle.semantics.specs.Words.{sizeAllowed, homeIn, scaledHome};
 
-// Whether c is one of n powers of two, 2^low the lowest: one bit of c is set, and the zeros below
-// that bit are as many as the exponent of one of them.
-fn is_power_from(low: u32, n: u32, c: usize) -> bool
-    ensures { λ r. ⌜ r ≡ isPowerFrom low n c ⌝ }
-{
-    let exponent = usize::trailing_zeros(c);
-    if usize::count_ones(c) == 1 {
-        if low <= exponent {
-            return exponent - low < n;
-        }
-    }
-    false
-}
-
-// Whether a table may have c cells: a power of two from 2^3 to 2^12.
+// Whether a table may have c cells: a power of two from 2^0 to 2^12. One bit of c is set, and the
+// zeros below that bit are as many as the exponent.
 pub fn size_allowed(c: usize) -> bool
     ensures { λ r. ⌜ r ≡ sizeAllowed c ⌝ }
 {
-    is_power_from(3, 10, c)
+    if usize::count_ones(c) == 1 {
+        return usize::trailing_zeros(c) < 13;
+    }
+    false
 }
 
 // The home of a key in c cells, as its hash, one of 65,536, scaled to c: no quotient by a number that is

@@ -1,11 +1,11 @@
 -- Which condition of a record with a known mark decides, in table order.
 -- Assumes nothing.
-use mathlib.Core.Path.{_≡_, refl, sym, ap, _∙_}
+use mathlib.Core.Path.{_≡_, sym, ap, _∙_}
 use Prim.Native.Nat.{ℕ, _+_, _≤_, _<_}
 use mathlib.Core.Bool.{Bool, true, false, cond, not}
 use mathlib.Core.List.{List, [], _∷_}
 use native.Mathlib.Omega.{arith}
-use lib.Dec.{eqb, ltb}
+use lib.Dec.{ltb}
 use lib.ListN.{length}
 use borrow.Author.Tests.{lt-ltb, le-ltb}
 use Rattle.semantics.specs.declared.Mark.{Mark}
@@ -15,15 +15,6 @@ use Rattle.semantics.specs.Refusals.{firstMet}
 use Rattle.semantics.specs.RunFile.{Layout, row, mayFollow, sizeOf, conditionsOf, markWrong, bodyCut, bodyWrong, oneTooMany}
 use Rattle.semantics.proofs.Conditions.{met-here, met-late}
 use Rattle.record.specs.Faults.{atFront, faultOf}
-
--- an unknown mark may follow nothing
-pub follows-nothing : (before : ℕ) → mayFollow before 0 ≡ false
-unfolding mayFollow
-follows-nothing before = go (eqb before 0)
-  where
-    go : (b : Bool) → cond b false false ≡ false
-    go true = refl
-    go false = refl
 
 -- the first condition met, when those before it are not
 module _ (L : Layout) (rest : List ℕ) (p : Position) (m : Mark) where

@@ -1,9 +1,9 @@
--- One record of a run file: which of its conditions decides, in table order; what holds of one that none turns away; and that run files can be
--- scanned.
+-- One record of a run file: which of its conditions decides, in table order; what the tests of each mark say of one that none turns away; and
+-- that run files can be scanned.
 -- Assumes nothing.
 use mathlib.Core.Path.{_≡_, refl, sym, ap, subst, _∙_}
 use Prim.Native.Nat.{ℕ, _+_, _-_, _^_, _≤_, _<_}
-use mathlib.Core.Bool.{Bool, true, false, cond, not, _||_, true≢false}
+use mathlib.Core.Bool.{Bool, cond, not, _||_, true≢false}
 use mathlib.Core.List.{List, [], _∷_}
 use native.Mathlib.Decide.{decLt}
 use native.Mathlib.Omega.{arith}
@@ -11,7 +11,7 @@ use lib.Dec.{eqb, leb, ltb}
 use lib.ListN.{length, take, drop, length-drop}
 use lib.Pow.{pow-mono}
 use lib.Seq.{take-all}
-use borrow.Author.Tests.{eq-eqb, ne-eqb, lt-ltb, le-ltb, ltb-false, leb-false, not-false}
+use borrow.Author.Tests.{eq-eqb, ne-eqb, lt-ltb, le-ltb, ltb-false, leb-false}
 use Rattle.semantics.specs.declared.Judged.{Judged}
 use Rattle.semantics.specs.declared.Mark.{Mark}
 use Rattle.semantics.specs.declared.Mark.the-variants.{Table, Cell, Operation, Schedule, Unknown}
@@ -22,13 +22,13 @@ use Rattle.semantics.specs.Refusals.{mostOperations, mostEntries}
 use Rattle.semantics.specs.Records.{faultAt}
 use Rattle.semantics.specs.RunFile.{Layout, layoutOf, row, byteAt, pairAt, markAt, mayFollow, sizeOf, past, nextOf, runFile, judged}
 use Rattle.semantics.specs.RunFile.{conditionsOf, conditionsAt, markCut, markWrong, bodyCut, bodyWrong, oneTooMany}
-use Rattle.semantics.proofs.Conditions.{none-met, met-here, met-late, alike-number}
+use Rattle.semantics.proofs.Conditions.{met-here, met-late, alike-number}
 use Rattle.semantics.proofs.Records.{Scannable}
 use Rattle.semantics.proofs.Parts.{Agrees, rest-agrees, pair-agrees, total-agrees}
 use Rattle.semantics.proofs.Sizes.{allowed-bounds}
 use Rattle.semantics.proofs.Booleans.{same-test, compared, neither, affirmed}
+use Rattle.semantics.proofs.Marks.{follows-nothing, Sound, sound}
 use Rattle.record.specs.Faults.{atFront, faultOf}
-use Rattle.record.proofs.Order.{follows-nothing}
 
 -- what is read of the bytes from a record on is what is read in its place
 module _ (flagged : Bool) (file : List ℕ) (p : Position) where
@@ -105,25 +105,6 @@ module _ (L : Layout) (file : List ℕ) (p : Position) {j : Judged} (is : j ≡ 
   unfolding judged
   next-said z =
       ap (λ (k : Judged). k .next) is ∙ ap (λ b. cond b (nextOf L file p) p) (eq-eqb (faultAt (runFile L) file p) 0 (sym number-said ∙ z))
-
--- what holds of a record that no condition turns away
-pub record Sound (L : Layout) (file : List ℕ) (p : Position) (m : Mark) : Type 0 where
-  pub follows : mayFollow (p .part) (row L m .part) ≡ true
-  pub whole : p .at + sizeOf L file (p .at) m ≤ length file
-  pub body : row L m .isWrong file p ≡ false
-  pub room : row L m .isTooMany file p ≡ false
-
-pub sound : (L : Layout) (file : List ℕ) (p : Position) {m : Mark} → m ≡ markAt L file (p .at) → faultAt (runFile L) file p ≡ 0 → Sound L file p m
-unfolding faultAt conditionsAt markCut markWrong bodyCut bodyWrong oneTooMany
-sound L file p {m} is e =
-    let (cut, (order, (short, (wrong, (many, end))))) = none-met (conditionsAt L file p) (omega arith) e in
-    subst (Sound L file p) (sym is)
-    (record {
-      follows = not-false (mayFollow (p .part) (row L (markAt L file (p .at)) .part)) order;
-      whole = ltb-false (length file) (p .at + sizeOf L file (p .at) (markAt L file (p .at))) short;
-      body = wrong;
-      room = many;
-    })
 
 -- every record has the two bytes of its mark, and one with a known mark a third
 module _ (L : Layout) (file : List ℕ) (at : ℕ) where

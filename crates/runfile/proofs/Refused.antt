@@ -29,12 +29,6 @@ module _ (L : Layout) (file : List ℕ) where
   unfolding fileRefusal fileConditions fileTooLong
   by-records h e = e ∙ sym (met-late (fileTooLong file ∷ []) byRecords (le-ltb 65535 (length file) h, tt))
 
-  file-accepted : fileRefusal L file .number ≡ 0 → judgement (runFile L) file (records (runFile L) file start) .number ≡ 0
-  unfolding fileRefusal fileConditions fileTooLong
-  file-accepted e =
-      let none = none-met (fileTooLong file ∷ []) (omega arith) (early-accepts (fileTooLong file ∷ []) byRecords e) in
-      ap (λ (r : Refusal). r .number) (sym (met-late (fileTooLong file ∷ []) byRecords none)) ∙ e
-
   -- with slices of some lengths
   module _ (cells operations schedule : ℕ) where
     abbrev short : Condition
@@ -59,9 +53,6 @@ module _ (L : Layout) (file : List ℕ) where
           let (front, entries) = neither (ltb cells 4096 || ltb operations 64) (ltb schedule 16384) fit in
           let (table, rows) = neither (ltb cells 4096) (ltb operations 64) front in
           (ltb-false cells 4096 table, ltb-false operations 64 rows, ltb-false schedule 16384 entries)
-
-      pub records-accepted : judgement (runFile L) file (records (runFile L) file start) .number ≡ 0
-      records-accepted = file-accepted (ap (λ (r : Refusal). r .number) (sym (by-file fit)) ∙ accepted)
 
 -- what the reader leaves, whether it accepts the file or not
 module _ (L : Layout) (file cells operations schedule : List ℕ) {r : Refusal} (is : r ≡ readerRefusal L file (length cells) (length operations) (length schedule)) where

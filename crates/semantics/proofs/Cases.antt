@@ -34,7 +34,7 @@ unfoldable pub computed : Unit {0}
 unfolding
     resultOf holds cases inFull longer edge
     Cases.resultWith Cases.leftBy Cases.sameList Cases.readBy Cases.refusedBy Cases.lent Cases.lentAs Cases.readingOf
-    Cases.starred Cases.capped Cases.inFullFile Cases.inFullText Cases.goneFile Cases.goneText
+    Cases.starred Cases.capped Cases.smallTables Cases.oneRoom Cases.oneRoomFile Cases.oneRoomText Cases.inFullFile Cases.inFullText Cases.goneFile Cases.goneText
     Cases.furtherNumbers Cases.furtherCalls Cases.furtherFiles Cases.furtherTexts Cases.furtherRuns Cases.everyFile Cases.everyText
     Totals.heldAt Totals.plusAt Totals.caps Totals.capsAt Totals.sameTotal Narrow.narrow
     Cells.codeOf Cells.totalOf Cells.keyed Cells.lookup Cells.isEmpty Cells.usedCells

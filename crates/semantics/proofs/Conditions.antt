@@ -61,6 +61,10 @@ early-accepts cs ds e = elim (ℕ-discrete (firstMet cs .number) 0) [
   | no h ↦ ap (λ (r : Refusal). r .number) (sym (met-early cs ds h)) ∙ e
 ]
 
+-- and of its second part none is either
+pub late-accepts : (cs ds : List Condition) → Positive cs → firstMet (cs ++ ds) .number ≡ 0 → firstMet ds .number ≡ 0
+late-accepts cs ds p e = ap (λ (r : Refusal). r .number) (sym (met-late cs ds (none-met cs p (early-accepts cs ds e)))) ∙ e
+
 -- a table of one condition more
 pub met-here : (c : Condition) (more : List Condition) → c .met ≡ true → firstMet (c ∷ more) ≡ record { number = c .number; place = c .place }
 unfolding firstMet
@@ -88,6 +92,40 @@ alike-number (c ∷ cs) (d ∷ ds) h = rw (h .1) (go (d .met) (alike-number cs d
         → cond b (record { number = c .number; place = c .place }) (firstMet cs) .number ≡ cond b (record { number = d .number; place = d .place }) (firstMet ds) .number
     go true r = h .0
     go false r = r
+
+-- tables that are the same up to the first condition that is met decide alike, whatever stands behind
+abbrev pub Same : List Condition → List Condition → Type 0
+Same [] [] = Unit
+Same [] (d ∷ ds) = ⊥
+Same (c ∷ cs) [] = ⊥
+Same (c ∷ cs) (d ∷ ds) = (c ≡ d) × (d .met ≡ false → Same cs ds)
+
+same-refl : (cs : List Condition) → Same cs cs
+same-refl [] = tt
+same-refl (c ∷ cs) = (refl, λ e. same-refl cs)
+
+pub same-append : (cs ds bs es : List Condition) → Same cs ds → Same bs es → Same (cs ++ bs) (ds ++ es)
+same-append [] [] bs es h r = r
+same-append [] (d ∷ ds) bs es h r = absurd h
+same-append (c ∷ cs) [] bs es h r = absurd h
+same-append (c ∷ cs) (d ∷ ds) bs es h r = (h .0, λ e. same-append cs ds bs es (h .1 e) r)
+
+pub same-decides : (cs ds : List Condition) → Same cs ds → firstMet cs ≡ firstMet ds
+unfolding firstMet
+same-decides [] [] h = refl
+same-decides [] (d ∷ ds) h = absurd h
+same-decides (c ∷ cs) [] h = absurd h
+same-decides (c ∷ cs) (d ∷ ds) h = rw (h .0) (go (d .met) (λ e. same-decides cs ds (h .1 e)))
+  where
+    refusal : Refusal
+    refusal = record { number = d .number; place = d .place }
+
+    go : (b : Bool) → (b ≡ false → firstMet cs ≡ firstMet ds) → cond b refusal (firstMet cs) ≡ cond b refusal (firstMet ds)
+    go true r = refl
+    go false r = r refl
+
+pub same-behind : (cs bs es : List Condition) → Same bs es → firstMet (cs ++ bs) ≡ firstMet (cs ++ es)
+same-behind cs bs es h = same-decides (cs ++ bs) (cs ++ es) (same-append cs cs bs es (same-refl cs) h)
 
 -- conditions of one place: the first that is met has it
 abbrev pub Placed : ℕ → List Condition → Type 0

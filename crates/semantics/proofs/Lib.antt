@@ -22,10 +22,12 @@ pub mod Keys
 pub mod Start
 pub mod Records
 pub mod Parts
+pub mod Marks
 pub mod RunPacks
 pub mod WordsHold
 pub mod Lengths
 pub mod Widths
 pub mod Bounded
+pub mod Earlier
 pub mod Cases
 pub mod Refuted

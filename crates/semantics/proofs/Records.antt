@@ -55,6 +55,17 @@ module _ (F : Format) (file : List ℕ) where
   unfolding recordsFrom
   more n p e = ap (λ (b : Bool). p ∷ elim b [ true ↦ recordsFrom F file n (F .next file p) | false ↦ [] ]) e
 
+  -- what holds of a record by itself, and with the later ones where it is not the last, holds of the records from it on
+  pub from-here : (P : List (F .Place) → Type 0) (n : ℕ) (p : F .Place) → (goesOn F file p ≡ true → P (p ∷ recordsFrom F file n (F .next file p)))
+      → P (p ∷ []) → P (recordsFrom F file (suc n) p)
+  unfolding recordsFrom
+  from-here P n p = go (goesOn F file p)
+    where
+      go : (b : Bool) → (b ≡ true → P (p ∷ recordsFrom F file n (F .next file p))) → P (p ∷ [])
+          → P (p ∷ elim b [ true ↦ recordsFrom F file n (F .next file p) | false ↦ [] ])
+      go true r s = r refl
+      go false r s = s
+
 -- a turn of a loop over records
 module _ {F : Format} {file : List ℕ} (ok : Scannable F file) {p : F .Place} where
   -- past a record that no condition turns away, on to q

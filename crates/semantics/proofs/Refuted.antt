@@ -20,6 +20,7 @@ use Rattle.semantics.specs.TotalsRule as TotalsRule
 use Rattle.semantics.specs.Narrow.{operationWord as operation, packedAnswer as answer}
 use Rattle.semantics.specs.Run.{Result, machine, acceptedResult, runResult, madeOutcome, refusedOutcome}
 use Rattle.semantics.specs.Demands.{cellsOf, operationsOf, replayOf, Linearizable, TotalsKept, Untouched, afterEntries, Demands}
+use Rattle.semantics.specs.Earlier.{earlierSize, refusalBy, resultBy}
 use Rattle.semantics.specs.Cases.{table, at, job, resultOf, fullTable}
 use Rattle.semantics.proofs.Booleans.{eq→eqb}
 use Rattle.semantics.proofs.Narrow.{narrow-packing}
@@ -249,3 +250,8 @@ another-number h = differ (ap (λ r. r .outcome .number) (h .refused (λ e. diff
 a-slice-altered : Demands narrowWidth twice adds racing slices slices (turned-away 7 5 (0 ∷ 0 ∷ [])) → ⊥
 unfolding replayed
 a-slice-altered h = differ (ap (λ r. getD (r .answers) 0 0) (h .refused (λ e. differ e tt))) tt
+
+-- Document 02, "A2". "Runs accepted before give the same results" is of 8 cells or more: of 4 the call was refused
+four-cells-were-refused : resultBy earlierSize narrowWidth (table 4 []) [] [] [] [] ≡ runResult narrowWidth (table 4 []) [] [] [] [] → ⊥
+unfolding computed earlierSize refusalBy resultBy
+four-cells-were-refused e = differ (ap (λ r. r .outcome .number) e) tt

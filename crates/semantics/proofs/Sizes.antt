@@ -1,4 +1,4 @@
--- The setting of an allowed table is lawful, whatever its ceiling: the home of a key in a table of 2^0 to 2^13 cells.
+-- The setting of an allowed table is lawful, whatever its ceiling: the home of a key in a table of 2^0 to 2^16 cells.
 -- Assumes nothing.
 use mathlib.Core.Path.{_≡_, ap, sym, subst, _∙_}
 use Prim.Native.Nat.{ℕ, zero, suc, _+_, _-_, _*_, _/_, _^_, _≤_, _<_}
@@ -8,7 +8,7 @@ use lib.Dec.{T, eqb, eqb→eq}
 use lib.Pow.{pow-add, pow-pos, pow-mono, shr-lt}
 use Rattle.semantics.specs.Words.{isPowerFrom, sizeAllowed, homeIn, settingAt}
 use Rattle.semantics.proofs.Laws.{Lawful}
-use Rattle.semantics.proofs.Booleans.{either, left, right}
+use Rattle.semantics.proofs.Booleans.{either}
 use Rattle.semantics.proofs.Totals.{same-total-sound, plus-comm, plus-assoc, sum-none, sum-more}
 
 -- one of n powers of two, 2^k the lowest, and its exponent
@@ -37,44 +37,30 @@ home-below : (j r k : ℕ) → j + r ≡ 16 → homeIn (2 ^ j) k < 2 ^ j
 unfolding homeIn
 home-below j r k e = share-below j r _ e (omega arith)
 
-power-lawful : (ceiling c : ℕ) → T (isPowerFrom 0 14 c) → Lawful (settingAt ceiling c)
-power-lawful ceiling c h =
-    let p = power 0 14 c h in
+power-lawful : (ceiling : ℕ) {k n c : ℕ} → Power k n c → k + n ≤ 17 → Lawful (settingAt ceiling c)
+power-lawful ceiling p most =
     record {
       same-sound = same-total-sound;
       plus-comm = plus-comm ceiling;
       plus-assoc = plus-assoc ceiling;
       sum-none = sum-none ceiling;
       sum-more = sum-more ceiling;
-      home-below = λ k. subst (λ n. homeIn n k < n) (sym (p .is)) (home-below (p .exponent) (16 - p .exponent) k (omega arith));
+      home-below = λ k. subst (λ n. homeIn n k < n) (sym (p .is)) (home-below (p .exponent) (16 - p .exponent) k (omega (arith, p .high)));
     }
 
--- every size that the run accepts is one of those
-one-more : (k n c : ℕ) → T (isPowerFrom k n c) → T (isPowerFrom k (suc n) c)
-unfolding isPowerFrom
-one-more k zero c h = absurd h
-one-more k (suc n) c h =
-    either (eqb c (2 ^ k)) (isPowerFrom (suc k) n c) h
-    (left (eqb c (2 ^ k)) (isPowerFrom (suc k) (suc n) c))
-    (λ t. right (eqb c (2 ^ k)) (isPowerFrom (suc k) (suc n) c) (one-more (suc k) n c t))
-
-one-lower : (k n c : ℕ) → T (isPowerFrom (suc k) n c) → T (isPowerFrom k (suc n) c)
-unfolding isPowerFrom
-one-lower k n c = right (eqb c (2 ^ k)) (isPowerFrom (suc k) n c)
-
-allowed-power : (c : ℕ) → T (sizeAllowed c) → T (isPowerFrom 0 14 c)
+-- an allowed size is 2^0 to 2^12
+pub allowed-power : (c : ℕ) → T (sizeAllowed c) → Power 0 13 c
 unfolding sizeAllowed
-allowed-power c h = one-lower 0 13 c (one-lower 1 12 c (one-lower 2 11 c (one-more 3 10 c h)))
+allowed-power c = power 0 13 c
 
 pub allowed-lawful : (ceiling c : ℕ) → T (sizeAllowed c) → Lawful (settingAt ceiling c)
-allowed-lawful ceiling c h = power-lawful ceiling c (allowed-power c h)
+allowed-lawful ceiling c h = power-lawful ceiling (allowed-power c h) (omega arith)
 
 -- whatever the ceiling, a home is a cell
 pub home-inside : (c : ℕ) → T (sizeAllowed c) → (k : ℕ) → homeIn c k < c
 home-inside c h = allowed-lawful 0 c h .home-below
 
-pub allowed-bounds : (c : ℕ) → T (sizeAllowed c) → (8 ≤ c) × (c ≤ 4096)
-unfolding sizeAllowed
+pub allowed-bounds : (c : ℕ) → T (sizeAllowed c) → (1 ≤ c) × (c ≤ 4096)
 allowed-bounds c h =
-    let p = power 3 10 c h in
-    subst (λ n. (8 ≤ n) × (n ≤ 4096)) (sym (p .is)) (pow-mono (p .low), pow-mono {j = 12} (omega arith))
+    let p = allowed-power c h in
+    subst (λ n. (1 ≤ n) × (n ≤ 4096)) (sym (p .is)) (pow-mono (p .low), pow-mono {j = 12} (omega (arith, p .high)))

@@ -168,6 +168,13 @@ holds (counted before n number after) =
     let p : Position = record { at = 0; part = 4; size = 8; lowest = 0; operations = 1; entries = before } in
     eqb number (faultAt (runFile narrowFile) file p) && eqb after (nextOf narrowFile file p .entries)
 
+-- files: how they are judged with slices just long enough, and the lines that are written for them
+abbrev judged : List ℕ → ℕ → ℕ → Case
+judged file = judgedIn 4096 64 16384 file
+
+abbrev says : List ℕ → String → Case
+says file lines = writes file (text lines)
+
 -- "A run in full": OP records of kind 4 and the rows of the one SC record
 unfoldable pub inFull : Contents
 inFull =
@@ -245,9 +252,9 @@ starred =
     ∷ refused (table 8 (at 5 9 25 ∷ [])) 8 5
     ∷ refused (table 8 (at 4 1 40 ∷ at 5 1 40 ∷ [])) 7 5
     ∷ writes (tableRecord 3 ++ cellRecord 5 9 25) (text "refused 8 at 5\n")
-    -- "4 or 12 cells: refused 1."
-    ∷ refused (table 4 []) 1 0
-    ∷ refused (table 12 []) 1 0
+    -- "4 or 12 cells: refused 1." The second still is, as are 0 and 3; the first runs by document 02, "A2", as does 1.
+    ∷ refused (table 12 []) 1 0 ∷ refused (table 0 []) 1 0 ∷ refused (table 3 []) 1 0
+    ∷ begins (table 4 []) (operation 1 1 0 ∷ []) ∷ begins (table 1 []) (operation 1 1 0 ∷ [])
     ∷ []
 
 -- Document 02, "A1": room 1 alone in the table, in cell 4 with total t
@@ -283,6 +290,59 @@ capped =
     ∷ sumIs 0 65535 131071 true ∷ sumIs 65535 65535 65535 true ∷ sumIs 65534 65534 131071 true
     ∷ []
 
+-- Document 02, "A2": a job of one room, whose table is full with it. The second add holds the empty cell that the first then fills, loses its
+-- swap and reads again.
+unfoldable pub oneRoom : Contents
+oneRoom =
+    job (table 1 []) (operation 4 1 40 ∷ operation 1 2 0 ∷ operation 4 2 25 ∷ operation 4 1 5 ∷ []) (0 ∷ 2 ∷ 0 ∷ 2 ∷ 1 ∷ 2 ∷ 3 ∷ 3 ∷ [])
+
+unfoldable pub oneRoomFile : List ℕ
+oneRoomFile =
+    tableRecord 0 ++ operationRecord 4 1 40 ++ operationRecord 1 2 0 ++ operationRecord 4 2 25 ++ operationRecord 4 1 5
+    ++ scheduleRecord (oneRoom .schedule)
+
+unfoldable pub oneRoomText : List ℕ
+oneRoomText =
+    text "rows 4 done 4 lost 1 idle 0\n"
+    ++ text "row 0 add 1 40 inserted 0\n"
+    ++ text "row 1 find 2 0 absent 0\n"
+    ++ text "row 2 add 2 25 full 0\n"
+    ++ text "row 3 add 1 5 changed 40\n"
+    ++ text "log 0 1 2 3\n"
+    ++ text "cell 0 1 45\n"
+
+-- keys 2, 4, 1 and 3 each at home fill a table of 4 cells, and one operation on it takes some steps
+abbrev fourFull : List ℕ
+fourFull = table 4 (at 0 2 20 ∷ at 1 4 40 ∷ at 2 1 10 ∷ at 3 3 30 ∷ [])
+
+abbrev onFour : ℕ → ℕ → ℕ → List ℕ → ℕ → Case
+onFour op steps answered log done = leaves (job fourFull (op ∷ []) (replicate steps 0)) (left fourFull (answered ∷ []) log done 0 0)
+
+unfoldable pub smallTables : List Case
+smallTables =
+    -- "Tables of 1, 2 and 4 cells.": homes. Keys 34,937, 32,768 and 2,169 have hashes at the ends of shares: 65,535, 32,768 and 32,767.
+    homeIs 1 1 0 ∷ homeIs 34937 1 0 ∷ homeIs 65534 1 0
+    ∷ homeIs 1 2 1 ∷ homeIs 34937 2 1 ∷ homeIs 32768 2 1 ∷ homeIs 2169 2 0 ∷ homeIs 2 2 0
+    ∷ homeIs 1 4 2 ∷ homeIs 34937 4 3 ∷ homeIs 32768 4 2 ∷ homeIs 2169 4 1 ∷ homeIs 2 4 0
+    -- one cell: an add, a find of another room, and a full
+    ∷ leaves oneRoom
+    (left (table 1 (at 0 1 45 ∷ [])) (answer 2 0 ∷ answer 6 0 ∷ answer 7 0 ∷ answer 4 40 ∷ []) (0 ∷ 1 ∷ 2 ∷ 3 ∷ []) 4 1 0)
+    ∷ writes oneRoomFile oneRoomText
+    -- two cells: 9 has the home of 1, passes the end of the table and is put into cell 0; 17 then finds no empty cell
+    ∷ leaves (job (table 2 (at 1 1 40 ∷ [])) (operation 4 9 25 ∷ operation 4 17 1 ∷ operation 1 9 0 ∷ []) (0 ∷ 0 ∷ 0 ∷ 1 ∷ 2 ∷ 1 ∷ 2 ∷ []))
+    (left (table 2 (at 0 9 25 ∷ at 1 1 40 ∷ [])) (answer 2 0 ∷ answer 7 0 ∷ answer 1 25 ∷ []) (0 ∷ 1 ∷ 2 ∷ []) 3 0 0)
+    -- four cells, full: a fifth room is not there after 4 steps, and not before
+    ∷ onFour (operation 4 5 1) 3 (answer 0 0) (9 ∷ []) 0 ∷ onFour (operation 4 5 1) 4 (answer 7 0) (0 ∷ []) 1
+    ∷ onFour (operation 1 5 0) 3 (answer 0 0) (9 ∷ []) 0 ∷ onFour (operation 1 5 0) 4 (answer 6 0) (0 ∷ []) 1
+    -- "Refusals 1 and 11 now begin below 1 cell and below k = 0.", so that there is no k that is too small
+    ∷ judged (tableRecord 0) 0 0 ∷ judged (tableRecord 1) 0 0 ∷ judged (tableRecord 2) 0 0
+    -- the other refusals, in 1 and in 2 cells
+    ∷ refused (table 1 (at 0 0 1 ∷ [])) 4 0 ∷ begins (table 1 (at 0 65535 0 ∷ [])) [] ∷ begins (table 1 (at 0 65534 1 ∷ [])) []
+    ∷ refused (table 2 (at 0 1 1 ∷ at 1 1 2 ∷ [])) 7 1 ∷ refused (table 2 (at 0 1 1 ∷ [])) 8 0 ∷ refused (table 2 (at 1 2 1 ∷ [])) 8 1
+    ∷ begins (table 2 (at 0 1 1 ∷ at 1 65535 0 ∷ [])) []
+    ∷ says (tableRecord 0 ++ cellRecord 1 1 1) "refused 11 at 3\n" ∷ judged (tableRecord 0 ++ cellRecord 0 1 1) 0 0
+    ∷ []
+
 -- FURTHER CASES, which the document does not work out. Each stands at an edge of one of its sentences, so that a definition that says
 -- another thing there has a row against it, whatever the code does. Five lists: numbers, calls of the run, files, texts and whole runs.
 
@@ -297,7 +357,7 @@ furtherNumbers =
     ∷ homeIs 257 16 13 ∷ homeIs 1 4096 2531
     -- "giving 65,535 where c or the key is not allowed"
     ∷ homeIs 0 8 65535 ∷ homeIs 65535 8 65535 ∷ homeIs 65536 8 65535
-    ∷ homeIs 1 0 65535 ∷ homeIs 1 4 65535 ∷ homeIs 1 12 65535 ∷ homeIs 1 8192 65535
+    ∷ homeIs 1 0 65535 ∷ homeIs 1 3 65535 ∷ homeIs 1 12 65535 ∷ homeIs 1 8192 65535
     -- "Adding two totals gives their sum, or 65,535 if the sum is larger."; "Total 65,535 is pinned"
     ∷ sumIs 0 0 0 false ∷ sumIs 0 65534 65534 false ∷ sumIs 40 25 65 false
     ∷ sumIs 32767 32767 65534 false ∷ sumIs 32768 32767 131071 true ∷ sumIs 32768 32768 131071 true ∷ sumIs 65535 1 65535 true
@@ -326,7 +386,7 @@ gone n = at n 65535 0
 unfoldable pub furtherCalls : List Case
 furtherCalls =
     -- 1: "c not allowed"
-    refused [] 1 0 ∷ refused (table 1 []) 1 0 ∷ refused (table 7 []) 1 0 ∷ refused (table 9 []) 1 0
+    refused (table 5 []) 1 0 ∷ refused (table 6 []) 1 0 ∷ refused (table 7 []) 1 0 ∷ refused (table 9 []) 1 0
     ∷ refused (table 24 []) 1 0 ∷ refused (table 63 []) 1 0 ∷ refused (table 8192 []) 1 0
     ∷ begins (table 8 []) [] ∷ begins (table 16 []) [] ∷ begins (table 32 []) [] ∷ begins (table 64 []) []
     ∷ refusedCall (table 4096 []) (replicate 65 find1) [] 2 0
@@ -378,13 +438,6 @@ furtherCalls =
     ∷ refused (table 8 (at 5 1 1 ∷ at 6 1 1 ∷ [])) 7 6
     ∷ []
 
--- files: how they are judged with slices just long enough, and the lines that are written for them
-abbrev judged : List ℕ → ℕ → ℕ → Case
-judged file = judgedIn 4096 64 16384 file
-
-abbrev says : List ℕ → String → Case
-says file lines = writes file (text lines)
-
 abbrev find1Record : List ℕ
 find1Record = operationRecord 1 1 0
 
@@ -420,9 +473,9 @@ furtherFiles =
     ∷ says (tableRecord 3 ++ text "OP" ++ (1 ∷ 0 ∷ 1 ∷ 0 ∷ [])) "refused 10 at 3\n"
     ∷ says (tableRecord 3 ++ find1Record ++ text "SC") "refused 10 at 10\n"
     ∷ says (tableRecord 3 ++ find1Record ++ text "SC" ++ (2 ∷ 0 ∷ [])) "refused 10 at 10\n"
-    -- 11: "TB, CL or SC body not as above": "k, 3 to 12"
-    ∷ says (tableRecord 2) "refused 11 at 0\n" ∷ says (tableRecord 13) "refused 11 at 0\n"
-    ∷ judged (tableRecord 3) 0 0 ∷ judged (tableRecord 12) 0 0
+    -- 11: "TB, CL or SC body not as above": "k, .. to 12". "TB 3 and 12 read; 2 and 13 give 11": 2 reads by document 02, "A2".
+    ∷ says (tableRecord 13) "refused 11 at 0\n" ∷ says (tableRecord 64) "refused 11 at 0\n" ∷ says (tableRecord 255) "refused 11 at 0\n"
+    ∷ says (tableRecord 2) "rows 0 done 0 lost 0 idle 0\nlog\n" ∷ judged (tableRecord 3) 0 0 ∷ judged (tableRecord 12) 0 0
     -- "Cell numbers ascend, none twice, and are below c; the key is not 0."
     ∷ says (tableRecord 3 ++ cellRecord 8 1 1) "refused 11 at 3\n"
     ∷ says (tableRecord 12 ++ cellRecord 4096 1 1) "refused 11 at 3\n"
@@ -543,7 +596,7 @@ furtherRuns =
     ∷ []
 
 unfoldable pub cases : List Case
-cases = starred ++ capped ++ furtherNumbers ++ furtherCalls ++ furtherFiles ++ furtherTexts ++ furtherRuns
+cases = starred ++ capped ++ smallTables ++ furtherNumbers ++ furtherCalls ++ furtherFiles ++ furtherTexts ++ furtherRuns
 
 -- all that demand 3 asks of a run
 pub record Meets (j : Contents) : Type 0 where

@@ -20,4 +20,5 @@ pub mod RunFile
 pub mod Listing
 pub mod Widths
 pub mod Response
+pub mod Earlier
 pub mod Cases

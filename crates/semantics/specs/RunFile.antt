@@ -119,7 +119,8 @@ entriesAt file at = take (byteAt file (at + 2)) (drop (at + 3) file)
 
 -- The table of marks. "Order: one TB, then CL records, OP records, SC records, any of the last three none."
 abbrev pub row : Layout → Mark → Form
--- "TB: one byte k, 3 to 12; c is 2^k." A k is judged by the sizes that a table may have. "Cells not named are empty."
+-- "TB: one byte k, 3 to 12; c is 2^k." A k is judged by the sizes that a table may have, and so begins at 0 by document 02, "A2". "Cells not
+-- named are empty."
 row L Table =
     record {
       letters = L .tableLetters;

@@ -16,9 +16,9 @@ unfoldable pub isPowerFrom : ℕ → ℕ → ℕ → Bool
 isPowerFrom k zero c = false
 isPowerFrom k (suc n) c = eqb c (2 ^ k) || isPowerFrom (suc k) n c
 
--- "Their number c is a power of two from 8 to 4,096."
+-- "Their number c is a power of two .. to 4,096", from 1 on by document 02, "A2": "Refusals 1 and 11 now begin below 1 cell and below k = 0."
 unfoldable pub sizeAllowed : ℕ → Bool
-sizeAllowed c = isPowerFrom 3 10 c
+sizeAllowed c = isPowerFrom 0 13 c
 
 -- "Home of a key: (key × 40,503) mod 65,536, divided by (65,536 / c), rounded down."
 abbrev pub hashOf : ℕ → ℕ

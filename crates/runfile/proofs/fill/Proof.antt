@@ -10,7 +10,8 @@ use Rattle.semantics.specs.Records.{records}
 use Rattle.semantics.specs.RunFile.{Layout, layoutOf, Contents, start, runFile, load}
 use Rattle.semantics.proofs.Records.{judgement}
 use Rattle.runfile.specs.Stored.{lentCells}
-use Rattle.runfile.proofs.Refused.{slices-fit, records-accepted}
+use Rattle.semantics.proofs.Marks.{records-accepted}
+use Rattle.runfile.proofs.Refused.{slices-fit}
 use Rattle.runfile.proofs.Stores.{both-long}
 use Rattle.runfile.proofs.Filled.{Room, Holds, Filling, filling-starts, filling-sound, filling-marked, filling-less, holds-long, holds-counted, turned, filling-again, filling-ends}
 use borrow.Author.Needs.{needs}

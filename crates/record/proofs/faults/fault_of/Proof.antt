@@ -6,7 +6,8 @@ use Rattle.semantics.specs.declared.Mark.{Mark}
 use Rattle.semantics.specs.declared.Mark.the-variants.{Unknown}
 use Rattle.semantics.specs.RunFile.{layoutOf}
 use Rattle.record.specs.Faults.{faultOf}
-use Rattle.record.proofs.Order.{out-of-order, follows-nothing}
+use Rattle.semantics.proofs.Marks.{follows-nothing}
+use Rattle.record.proofs.Order.{out-of-order}
 use borrow.Author.Needs.{needs}
 use Rattle.record.proofs.faults.fault_of.Statement.{statement}
 use Rattle.record.proofs.faults.fault_of.Tie as tie
