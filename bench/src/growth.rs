@@ -2,7 +2,7 @@
 
 use crate::cases::Case;
 use crate::runfile::RunFile;
-use crate::tables::all_passing;
+use crate::tables::{all_found, all_passing};
 
 pub struct Series {
     pub name: &'static str,
@@ -24,17 +24,17 @@ pub fn series() -> Vec<Series> {
             name: "Cells of an empty table: no operations, no entries",
             unit: "cell",
             units: "cells",
-            points: (3..=12)
-                .map(|k| point(1 << k, RunFile::empty(k), 0))
+            points: (0..=12)
+                .map(|k| point(1 << k, RunFile::empty(k), 0, 0))
                 .collect(),
         },
         Series {
-            // The smallest table lets an operation pass seven cells before it finishes.
-            name: "Cells of a full table: 64 operations, 448 entries, all passing steps",
+            // No passing steps, since the smallest table has no cell to go on to.
+            name: "Cells of a full table: 64 operations, each found by its one entry",
             unit: "cell",
             units: "cells",
-            points: (3..=12)
-                .map(|k| point(1 << k, all_passing(k, 64, 448), 64))
+            points: (0..=12)
+                .map(|k| point(1 << k, all_found(k, 64), 64, 64))
                 .collect(),
         },
         Series {
@@ -43,7 +43,7 @@ pub fn series() -> Vec<Series> {
             units: "operations",
             points: (0..=6)
                 .map(|doubled| 1 << doubled)
-                .map(|operations| point(operations, all_passing(8, operations, 128), operations))
+                .map(|operations| point(operations, all_passing(8, operations, 128), operations, 0))
                 .collect(),
         },
         Series {
@@ -51,15 +51,15 @@ pub fn series() -> Vec<Series> {
             unit: "entry",
             units: "entries",
             points: [0, 256, 512, 1_024, 2_048, 4_096, 8_192, 16_384]
-                .map(|entries| point(entries, all_passing(12, 64, entries), 64))
+                .map(|entries| point(entries, all_passing(12, 64, entries), 64, 0))
                 .into(),
         },
     ]
 }
 
-/// A point where no operation finishes.
-fn point(size: usize, file: RunFile, operations: usize) -> Point {
-    let begins = format!("rows {operations} done 0 lost 0 idle 0\n");
+/// A point where so many of the operations finish, and no entry is idle.
+fn point(size: usize, file: RunFile, operations: usize, done: usize) -> Point {
+    let begins = format!("rows {operations} done {done} lost 0 idle 0\n");
     Point {
         size,
         case: Case::new(&size.to_string(), file.bytes(), &begins),

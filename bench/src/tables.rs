@@ -1,6 +1,6 @@
-//! Starting tables, and schedules in which every entry is a passing step.
+//! Full tables, and runs on them whose entries all do the same.
 
-use crate::runfile::{key_at, RunFile, ADD};
+use crate::runfile::{key_at, RunFile, ADD, FIND};
 
 /// A full table: every cell has a key whose home it is.
 pub fn full(k: u8) -> RunFile {
@@ -9,6 +9,19 @@ pub fn full(k: u8) -> RunFile {
         let key = key_at(cell, k, 1);
         file.cells.push((cell as u16, key, cell as u16));
     }
+    file
+}
+
+/// A full table, and as many finds of rooms that it has, evenly over its cells:
+/// each is found at its one entry, in a table of any size.
+pub fn all_found(k: u8, operations: usize) -> RunFile {
+    let mut file = full(k);
+    let c = 1 << k;
+    for row in 0..operations {
+        let (_, key, _) = file.cells[row * c / operations];
+        file.operations.push((FIND, key, 0));
+    }
+    file.schedule = (0..operations as u8).collect();
     file
 }
 

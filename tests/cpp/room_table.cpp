@@ -31,9 +31,9 @@ template <typename Body> void check(Body body) {
     ++(wrong == 0 ? passed : failed);
 }
 
-// "Their number c is a power of two from 8 to 4,096."
+// "Their number c is a power of two from 8 to 4,096", from 1 on by document 02, "A2".
 bool size_allowed(std::uint32_t c) {
-    for (std::uint32_t power = 8; power <= 4096; power *= 2) {
+    for (std::uint32_t power = 1; power <= 4096; power *= 2) {
         if (c == power) {
             return true;
         }
@@ -75,7 +75,7 @@ void sum(std::uint32_t a, std::uint32_t b) {
 // Every key, and some that have more than sixteen bits, with each allowed size and its neighbours and
 // the powers of two on either side; then every size up to 70,000 with keys at the ends of their range.
 void check_homes() {
-    std::vector<std::uint32_t> sizes = {0, 1, 2, 3, 4, 6, 12, 65535, 0x80000000, 0xffffffff};
+    std::vector<std::uint32_t> sizes = {0, 1, 2, 3, 4, 5, 6, 12, 65535, 0x80000000, 0xffffffff};
     for (std::uint32_t power = 8; power <= 65536; power *= 2) {
         sizes.insert(sizes.end(), {power - 1, power, power + 1, power * 3});
     }

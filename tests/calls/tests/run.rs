@@ -1,6 +1,7 @@
-//! Calls of the run: lengths and words that no run file has, and every total
-//! with adds around the ceiling. Every call is made of the proved run and of the
-//! second model, and all that they leave compared.
+//! Calls of the run: lengths and words that no run file has, every total with
+//! adds around the ceiling, and every small run on one cell and on two. Every
+//! call is made of the proved run and of the second model, and all that they
+//! leave compared.
 
 use generated::files::case;
 use generated::random::Random;
@@ -203,14 +204,107 @@ fn adds_around_the_ceiling_that_lost_a_swap() {
     }
 }
 
+fn is_allowed(c: usize) -> bool {
+    c.is_power_of_two() && c <= 4_096
+}
+
 #[test]
 fn cells_of_every_length() {
     for c in (0..=4_200).chain([8_191, 8_192, 16_384, 65_536, 70_000]) {
-        let allowed = [8, 16, 32, 64, 128, 256, 512, 1_024, 2_048, 4_096].contains(&c);
         let mut call = accepted();
         call.cells = vec![0; c];
-        assert_eq!(refusal(&call), (u32::from(!allowed), 0), "{c} cells");
+        assert_eq!(refusal(&call), (u32::from(!is_allowed(c)), 0), "{c} cells");
     }
+}
+
+/// A table of c cells with keys in a row, some of them tombstones or empty and
+/// now and then the first key again; a few operations on the lowest keys.
+fn in_use(c: usize, random: &mut Random) -> Call {
+    let (empty, gone) = (random.pick(&[0, 0, 20, 60]), random.pick(&[0, 30]));
+    let first = random.between(1, 60_000) as u32;
+    let word = |place| match random.below(100) {
+        part if part < empty => 0,
+        part if part < empty + gone => cell(65_535, 0),
+        99 => cell(first, 3),
+        _ => cell(first + place as u32, random.word().into()),
+    };
+    let cells = (0..c).map(word).collect();
+    let rows = random.between(1, 4);
+    let row = |_| {
+        let kind = random.between(1, 5) as u64;
+        let key = u64::from(first) + random.below(6) as u64;
+        let amount = match kind {
+            FIND | REMOVE => 0,
+            _ => random.word().into(),
+        };
+        operation(kind, key, amount)
+    };
+    let operations = (0..rows).map(row).collect();
+    let entries = random.below(rows * (c + 4));
+    Call {
+        cells,
+        operations,
+        schedule: (0..entries).map(|_| random.below(rows) as u8).collect(),
+        answers: vec![7; rows],
+        log: vec![9; rows],
+    }
+}
+
+/// Of every length that is allowed some calls are accepted.
+#[test]
+fn cells_in_use_of_every_small_length() {
+    for c in 0..=33 {
+        let mut accepted = 0;
+        for index in 0..2_000 {
+            let call = in_use(c, &mut Random::new(17, c as u64 * 2_000 + index));
+            let (number, _) = refusal(&call);
+            assert_eq!(number == 1, !is_allowed(c), "{call:?}");
+            accepted += usize::from(number == 0);
+        }
+        assert_eq!(accepted > 100, is_allowed(c), "{accepted} of {c} cells");
+    }
+}
+
+/// "Tables of 1, 2 and 4 cells": every table of one cell and of two, with three
+/// rooms, every two operations on them, and every schedule of seven entries.
+#[test]
+fn every_run_of_two_operations_on_one_cell_and_on_two() {
+    // In two cells 1 is at home in cell 1, 2 and 5 in cell 0.
+    let rooms = [1, 2, 5];
+    let held = |room| cell(room, 65_534);
+    let words = [0, cell(65_535, 0), held(1), held(2), held(5)];
+    let mut operations = Vec::new();
+    for room in rooms {
+        operations.extend([operation(FIND, room, 0), operation(REMOVE, room, 0)]);
+        operations.extend([2, 3, ADD].map(|kind| operation(kind, room, 1)));
+    }
+    let mut tables: Vec<Vec<u32>> = words.iter().map(|&word| vec![word]).collect();
+    for first in words {
+        tables.extend(words.map(|second| vec![first, second]));
+    }
+    let mut refused = [0; 9];
+    for cells in tables {
+        for &first in &operations {
+            for &second in &operations {
+                for bits in 0..128_u8 {
+                    let call = Call {
+                        cells: cells.clone(),
+                        operations: vec![first, second],
+                        schedule: (0..7).map(|place| bits >> place & 1).collect(),
+                        answers: vec![7; 3],
+                        log: vec![9; 3],
+                    };
+                    refused[made(&call).number as usize] += 1;
+                }
+            }
+        }
+    }
+    // Of the tables of two cells three have a room twice, and room 1 behind an
+    // empty cell, or 2 or 5, is one each.
+    let of_a_table = 15 * 15 * 128;
+    assert_eq!(refused[7], 3 * of_a_table);
+    assert_eq!(refused[8], 3 * of_a_table);
+    assert_eq!(refused[0], (30 - 6) * of_a_table);
 }
 
 #[test]
@@ -347,7 +441,7 @@ fn calls_at_random() {
             &mut call.operations,
             &mut call.schedule,
         );
-        call.cells.truncate(loaded.cells.max(8));
+        call.cells.truncate(loaded.cells.max(1));
         call.operations.truncate(loaded.operations);
         call.schedule.truncate(loaded.entries);
         let count = call.operations.len();

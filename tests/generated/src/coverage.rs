@@ -29,7 +29,9 @@ const LINES: &[(&str, &str)] = &[
     ("accepted with", "lost swaps, idle entries, unfinished, all finished, wraparound, tombstone passed, key stored again, \
         ended full, totals rule, 65535 bytes, 64 rows, 16384 entries"),
     ("refused, of", "single, pair, prefix, mutated, shuffled, noise, sized"),
-    ("accepted, k", "3, 4, 5, 6, 7, 8, 9, 10, 11, 12"),
+    ("accepted, k", "0, 1, 2, 3, 4, 5, 6, 7, 8, 9, 10, 11, 12"),
+    ("refused, k", "0, 1, 2, 3, 4, 5, 6, 7, 8, 9, 10, 11, 12"),
+    ("refused in 1, 2 or 4 cells", "9, 10m, 10b, 11, 2, 4, 5, 6, 7, 8"),
     ("accepted, has", "none, CL, OP, CL OP, OP SC, CL OP SC"),
     ("refused 12", "by one, by more"),
     ("refused 10 mark, behind", "nothing, start, TB, CL, OP, SC"),
@@ -37,7 +39,7 @@ const LINES: &[(&str, &str)] = &[
         TB>TB, TB>CL, TB>OP, TB>SC, CL>OP, CL>SC, OP>SC"),
     ("refused 10 body", "TB>start, CL>TB, CL>CL, OP>TB, OP>CL, OP>OP, SC count>TB, SC count>CL, SC count>OP, SC count>SC, \
         SC>TB, SC>CL, SC>OP, SC>SC"),
-    ("refused 11", "TB 0, TB 2, TB 13, TB 255, twice:ml, descending:ml, not below c:fml, key 0:fml, SC 0:fml"),
+    ("refused 11", "TB 13, TB 16, TB 63, TB 64, TB 255, twice:ml, descending:ml, not below c:fml, key 0:fml, SC 0:fml"),
     ("refused 2", "OP:ml, SC:ml"),
     ("refused 4", "cell:fml"),
     ("refused 5", "kind 0:fml, kind 6:fml, kind 255:fml, key 0:fml, key 65535:fml, find amount:fml, remove amount:fml"),

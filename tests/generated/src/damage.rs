@@ -100,6 +100,8 @@ pub fn noise(random: &mut Random) -> Vec<u8> {
         let start = random.pick(&[
             &b"TB\x03"[..],
             b"TB\x0C",
+            b"TB\x00OP",
+            b"TB\x01CL",
             b"TB\x04CL",
             b"TB\x03OP",
             b"TB\x05SC",

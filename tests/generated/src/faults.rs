@@ -147,27 +147,35 @@ impl Parts<'_> {
     }
 
     fn bodies_wrong(&self, place: Place, random: &mut Random) -> Vec<Fault> {
-        let at = place.position(2, self.records.operations, random);
-        let before = self.number(at - 1);
-        let lower = random.between(0, usize::from(before.max(1)) - 1) as u16;
         let c = 1 << self.k;
         let beyond = random.pick(&[c, c + 1, 65_535, 4_096.max(c)]);
         let sound = Cell { key: 9, total: 2 };
         let keyless = Cell { key: 0, total: 2 };
         let then = Then::Follows;
         let size = |k| fault((0, 0), table(k), Then::IsReplaced);
-        vec![
-            size(0),
-            size(2),
+        let mut faults = vec![
             size(13),
+            size(16),
+            size(63),
+            size(64),
             size(255),
-            fault((at, at), cell(before, sound), then),
-            fault((at, at), cell(lower, sound), then),
             fault(self.among_cells(), cell(beyond, sound), then),
-            fault((at, at), cell((before + 1).min(c - 1), keyless), then),
             fault((1, 1), cell(0, keyless), then),
             fault(self.among_entries(), entries(&[]), then),
-        ]
+        ];
+        // Behind a CL, if there is one.
+        if self.records.operations > 1 {
+            let at = place.position(2, self.records.operations, random);
+            let before = self.number(at - 1);
+            let lower = random.between(0, usize::from(before.max(1)) - 1) as u16;
+            let behind = |number, held| fault((at, at), cell(number, held), then);
+            faults.extend([
+                behind(before, sound),
+                behind(lower, sound),
+                behind((before + 1).min(c - 1), keyless),
+            ]);
+        }
+        faults
     }
 
     /// One operation, or one entry, above what is allowed: for records that

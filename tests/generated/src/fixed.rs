@@ -1,4 +1,5 @@
-//! The cases that document 01 leaves to roomrun, with how their texts begin.
+//! The cases that document 01 leaves to roomrun, with how their texts begin, and
+//! document 02's where a request has moved one.
 
 use crate::plan::{split_exactly, Operation, Plan, MOST_ENTRIES, MOST_OPERATIONS};
 use crate::random::Random;
@@ -15,9 +16,11 @@ pub const NAMES: &[&str] = &[
     "64 rows 16384 entries",
     "65 rows",
     "16385 entries",
+    "TB 0",
+    "TB 1",
+    "TB 2",
     "TB 3",
     "TB 12",
-    "TB 2",
     "TB 13",
     "rows without entries",
 ];
@@ -28,6 +31,8 @@ const RUN_IN_FULL: &[u8] =
 const ITS_TEXT: &str =
     "rows 3 done 3 lost 2 idle 1\nrow 0 add 1 40 inserted 0\nrow 1 add 9 25 inserted 0\n\
     row 2 add 1 65500 capped 40\nlog 0 2 1\ncell 4 1 pinned\ncell 5 9 25\n";
+
+const EMPTY_TEXT: &str = "rows 0 done 0 lost 0 idle 0\nlog\n";
 
 /// As many additions of 1 to room 1 as asked for, one after the other.
 fn additions(rows: usize, entries: usize, random: &mut Random) -> Vec<u8> {
@@ -62,9 +67,11 @@ pub fn fixed(number: usize, random: &mut Random) -> Fixed {
             let text = format!("refused 2 at {}\n", file.len());
             (text, [file, b"SC\x01\x00".to_vec()].concat())
         }
-        "TB 3" => ("rows 0 done 0 lost 0 idle 0\nlog\n".into(), b"TB\x03".to_vec()),
-        "TB 12" => ("rows 0 done 0 lost 0 idle 0\nlog\n".into(), b"TB\x0C".to_vec()),
-        "TB 2" => ("refused 11 at 0\n".into(), b"TB\x02".to_vec()),
+        "TB 0" => (EMPTY_TEXT.into(), b"TB\x00".to_vec()),
+        "TB 1" => (EMPTY_TEXT.into(), b"TB\x01".to_vec()),
+        "TB 2" => (EMPTY_TEXT.into(), b"TB\x02".to_vec()),
+        "TB 3" => (EMPTY_TEXT.into(), b"TB\x03".to_vec()),
+        "TB 12" => (EMPTY_TEXT.into(), b"TB\x0C".to_vec()),
         "TB 13" => ("refused 11 at 0\n".into(), b"TB\x0D".to_vec()),
         _ => (
             "rows 2 done 0 lost 0 idle 0\nrow 0 add 1 1 unfinished 0\nrow 1 add 1 1 unfinished 0\nlog\n".into(),

@@ -28,6 +28,12 @@ pub fn refused(case: &Case, text: &[u8], coverage: &mut Coverage) {
         coverage.note(&title, wrong, place);
     }
     coverage.note("refused, of", case.family, ' ');
+    if let [b'T', b'B', k @ 0..=12, ..] = case.file[..] {
+        coverage.note("refused, k", &k.to_string(), ' ');
+        if k < 3 {
+            coverage.note("refused in 1, 2 or 4 cells", refusal.row, ' ');
+        }
+    }
     if let Some(pair) = &case.pair {
         if refusal.row == pair.first && has_second(pair, place) {
             let title = pair_title(pair.first, pair.in_one_record);

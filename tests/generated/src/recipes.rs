@@ -59,31 +59,31 @@ const fn recipe(name: &'static str, sizes: &'static [u8], homes: Homes) -> Recip
 
 #[rustfmt::skip]
 pub const RECIPES: &[Recipe] = &[
-    Recipe { used: (30, 90), ..recipe("crowded", &[3, 3, 4], Homes::Near(2)) },
-    Recipe { keys: (1, 1), operations: (2, 12), ..recipe("one key", &[3, 4], Homes::Any) },
-    Recipe { keys: (1, 1), kinds: &[2, 3, 5], ..recipe("race on one key", &[3], Homes::Near(1)) },
+    Recipe { used: (30, 90), ..recipe("crowded", &[1, 2, 3, 3, 4], Homes::Near(2)) },
+    Recipe { keys: (1, 1), operations: (2, 12), ..recipe("one key", &[0, 3, 4], Homes::Any) },
+    Recipe { keys: (1, 1), kinds: &[2, 3, 5], ..recipe("race on one key", &[0, 1, 3], Homes::Near(1)) },
     Recipe { keys: (1, 5), used: (0, 40), kinds: &[4, 4, 4, 1], totals: EDGE, length: Length::Each(4, 12),
-             ..recipe("adds", &[3, 4, 5], Homes::Near(3)) },
+             ..recipe("adds", &[0, 1, 2, 3, 4, 5], Homes::Near(3)) },
     Recipe { used: (100, 100), kinds: &[1, 2, 4, 5, 3, 4], length: Length::Round,
-             ..recipe("full", &[3, 3, 4], Homes::Any) },
+             ..recipe("full", &[0, 1, 2, 3, 3, 4], Homes::Any) },
     Recipe { keys: (4, 9), used: (70, 95), kinds: &[2, 4, 2, 4, 1, 5], length: Length::Each(4, 12),
-             ..recipe("nearly full", &[3], Homes::Near(4)) },
+             ..recipe("nearly full", &[2, 3], Homes::Near(4)) },
     Recipe { used: (50, 100), gone: 60, length: Length::Each(3, 10),
-             ..recipe("tombstones", &[3, 4], Homes::Near(2)) },
-    Recipe { used: (10, 70), length: Length::Each(2, 9), ..recipe("wraparound", &[3, 4, 6], Homes::End) },
+             ..recipe("tombstones", &[1, 2, 3, 4], Homes::Near(2)) },
+    Recipe { used: (10, 70), length: Length::Each(2, 9), ..recipe("wraparound", &[1, 2, 3, 4, 6], Homes::End) },
     Recipe { keys: (1, 2), gone: 0, kinds: &[4, 4, 4, 3, 1, 5], totals: EDGE,
              ..recipe("saturation", &[3], Homes::Any) },
     Recipe { keys: (1, 1), used: (20, 60), gone: 0, operations: (2, 5), kinds: &[4, 4, 4, 3, 5], totals: EDGE,
              length: Length::Each(3, 8), ..recipe("race to the ceiling", &[3], Homes::Any) },
-    Recipe { operations: (1, 3), length: Length::Each(10, 40), ..recipe("idle", &[3, 4], Homes::Near(2)) },
+    Recipe { operations: (1, 3), length: Length::Each(10, 40), ..recipe("idle", &[0, 3, 4], Homes::Near(2)) },
     Recipe { operations: (3, 20), used: (30, 90), length: Length::Each(0, 2),
-             ..recipe("unfinished", &[3, 4, 5], Homes::Near(2)) },
+             ..recipe("unfinished", &[2, 3, 4, 5], Homes::Near(2)) },
     Recipe { keys: (2, 30), used: (0, 100), operations: (1, 64), totals: &[], length: Length::Each(1, 20),
-             ..recipe("any size", &[3, 4, 5, 6, 7, 8, 9, 10, 11, 12], Homes::Any) },
+             ..recipe("any size", &[0, 1, 2, 3, 4, 5, 6, 7, 8, 9, 10, 11, 12], Homes::Any) },
     Recipe { keys: (1, 30), used: (0, 90), operations: (64, 64), length: Length::Each(1, 12),
-             ..recipe("64 operations", &[3, 4, 5, 6, 12], Homes::Near(8)) },
+             ..recipe("64 operations", &[0, 2, 3, 4, 5, 6, 12], Homes::Near(8)) },
     Recipe { keys: (1, 20), used: (0, 100), operations: (1, 64), length: Length::Most,
-             ..recipe("16384 entries", &[3, 5, 8, 12], Homes::Any) },
+             ..recipe("16384 entries", &[0, 3, 5, 8, 12], Homes::Any) },
     Recipe { used: (100, 100), operations: (1, 4), kinds: &[2, 4, 1, 5, 3], length: Length::Round,
              ..recipe("4096 cells full", &[12], Homes::Any) },
     Recipe { used: (97, 100), operations: (2, 8), length: Length::Round,
@@ -93,15 +93,15 @@ pub const RECIPES: &[Recipe] = &[
 /// How many recipes of files that are not large come first in the table.
 pub const SMALL: usize = 13;
 
-/// What the faults are put into: several records of each kind, some cells
-/// empty and some live, and not a large file.
+/// What the faults are put into: not a large file, with several records of each
+/// kind, some cells empty and some live, as far as the table has room.
 #[rustfmt::skip]
 pub const PLAIN: Recipe = Recipe { used: (40, 60), gone: 15, operations: (3, 8), length: Length::Each(3, 9),
-    ..recipe("plain", &[3, 4, 5], Homes::Near(3)) };
+    ..recipe("plain", &[0, 1, 2, 3, 4, 5], Homes::Near(3)) };
 
 /// The same with many cells, up to the most.
 #[rustfmt::skip]
-pub const LARGE: Recipe = Recipe { sizes: &[7, 10, 12], used: (5, 95), ..PLAIN };
+pub const LARGE: Recipe = Recipe { sizes: &[6, 7, 8, 9, 10, 11, 12], used: (5, 95), ..PLAIN };
 
 pub fn plan(recipe: &Recipe, random: &mut Random) -> Plan {
     let k = random.pick(recipe.sizes);
@@ -112,7 +112,8 @@ pub fn plan(recipe: &Recipe, random: &mut Random) -> Plan {
     };
     let count = random.between(recipe.keys.0, recipe.keys.1);
     let keys = keys(count, recipe.homes, k, random);
-    let used = c * random.between(recipe.used.0, recipe.used.1) / 100;
+    // Rounded up or down, so that the only cell of a table is used as often.
+    let used = (c * random.between(recipe.used.0, recipe.used.1) + random.below(100)) / 100;
     let cells = table(k, &keys, (used, recipe.gone), total, random);
     let count = random.between(recipe.operations.0, recipe.operations.1);
     let operation = |_| {

@@ -15,7 +15,7 @@ fn exactly(bytes: usize, random: &mut Random) -> Vec<u8> {
             ..PLAIN
         },
         false => Recipe {
-            sizes: &[3, 5, 12],
+            sizes: &[0, 3, 5, 12],
             used: (40, 100),
             ..PLAIN
         },

@@ -49,30 +49,34 @@ impl Spoiled {
     /// has no room for it.
     pub fn add(&mut self, number: &str, way: usize, place: Place, random: &mut Random) -> bool {
         match number {
-            "4" => self.total_without_key(place, random),
+            "4" => self.total_without_key(place, random).is_some(),
             "5" => self.operation(way, place, random),
             "6" => self.entry(way, place, random),
-            "7" => self.key_twice(place, random),
+            "7" => self.key_twice(place, random).is_some(),
             _ => self.key_behind_hole(place, random).is_some(),
         }
     }
 
-    /// A cell that no earlier fault needs; at the place asked for if it can be.
-    fn cell(&mut self, place: Place, random: &mut Random) -> u16 {
+    /// A cell that no earlier fault needs, if there is one; at the place asked
+    /// for if it can be.
+    fn cell(&mut self, place: Place, random: &mut Random) -> Option<u16> {
         let last = self.plan.c() - 1;
+        if self.kept.len() > last {
+            return None;
+        }
         let mut at = place.position(0, last, random) as u16;
         while self.kept.contains(&at) {
             at = random.between(0, last) as u16;
         }
         self.kept.push(at);
-        at
+        Some(at)
     }
 
-    fn total_without_key(&mut self, place: Place, random: &mut Random) -> bool {
-        let at = self.cell(place, random);
+    fn total_without_key(&mut self, place: Place, random: &mut Random) -> Option<()> {
+        let at = self.cell(place, random)?;
         let total = random.pick(&[1, 2, 65_535, 300]);
         self.plan.cells.insert(at, Cell { key: GONE, total });
-        true
+        Some(())
     }
 
     fn operation(&mut self, way: usize, place: Place, random: &mut Random) -> bool {
@@ -102,28 +106,28 @@ impl Spoiled {
         true
     }
 
-    fn key_twice(&mut self, place: Place, random: &mut Random) -> bool {
+    fn key_twice(&mut self, place: Place, random: &mut Random) -> Option<()> {
         let kept = &self.kept;
         let live = |(&at, cell): (&u16, &Cell)| {
             (cell.key != GONE && !kept.contains(&at)).then_some((at, cell.key))
         };
         let live: Vec<(u16, u16)> = self.plan.cells.iter().filter_map(live).collect();
         if live.is_empty() {
-            return false;
+            return None;
         }
         let (at, key) = random.pick(&live);
         self.kept.push(at);
-        let again = self.cell(place, random);
+        let again = self.cell(place, random)?;
         let total = random.word();
         self.plan.cells.insert(again, Cell { key, total });
-        true
+        Some(())
     }
 
     /// A new key in a cell that a search from its home does not reach, because
     /// its home or a cell after it is empty.
     fn key_behind_hole(&mut self, place: Place, random: &mut Random) -> Option<()> {
         let c = self.plan.c();
-        let at = self.cell(place, random);
+        let at = self.cell(place, random)?;
         let free = |hole: &u16| !self.plan.cells.contains_key(hole) && !self.kept.contains(hole);
         // From the cell backwards: half of the time the nearest one is taken,
         // which no other then hides.

@@ -16,7 +16,7 @@ pub enum Homes {
     Any,
     /// In this many neighbouring cells, so that keys crowd.
     Near(usize),
-    /// In the last two cells, so that probing goes past the last one.
+    /// In the last two cells, or the only one, so that probing goes past the last.
     End,
 }
 
@@ -40,7 +40,7 @@ pub fn keys(count: usize, homes: Homes, k: u8, random: &mut Random) -> Vec<u16> 
         let home = match homes {
             Homes::Any => random.below(c),
             Homes::Near(cells) => (base + random.below(cells)) % c,
-            Homes::End => c - 1 - random.below(2),
+            Homes::End => c - 1 - random.below(c.min(2)),
         };
         let key = key_at(home, k, random);
         if !keys.contains(&key) {

@@ -139,7 +139,7 @@ impl Shape {
     fn body(&mut self, sort: Sort, body: &[u8]) -> Result<(), u32> {
         match sort {
             Sort::Table => match body[0] {
-                k @ 3..=12 => self.c = 1 << k,
+                k @ 0..=12 => self.c = 1 << k,
                 _ => return Err(11),
             },
             Sort::Cell => {

@@ -41,7 +41,7 @@ pub(crate) fn became_saturated(before: u16, after: u16) -> bool {
 
 /// Whether a table may have this many cells.
 pub(crate) fn is_size(c: usize) -> bool {
-    c.is_power_of_two() && (8..=4_096).contains(&c)
+    c.is_power_of_two() && c <= 4_096
 }
 
 /// The hash for one number of cells.
@@ -60,7 +60,8 @@ impl Homes {
     }
 
     pub(crate) fn home(self, key: u16) -> usize {
-        usize::from(key.wrapping_mul(40_503) >> self.shift)
+        // Wider than the hash, of which one cell leaves no bit.
+        usize::from(key.wrapping_mul(40_503)) >> self.shift
     }
 }
 

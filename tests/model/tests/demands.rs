@@ -303,7 +303,7 @@ fn every_short_schedule_of_adds_keeps_the_totals() {
 #[test]
 fn refused_calls_are_no_runs() {
     let find = [operation("find", 1, 0)];
-    for (cells, schedule) in [(vec![0; 4], [0]), (vec![0; 8], [1])] {
+    for (cells, schedule) in [(vec![0; 3], [0]), (vec![0; 8], [1])] {
         assert!(linearizable(&cells, &find, &schedule).is_err());
         assert!(linearizable_at_every_prefix(&cells, &find, &schedule).is_err());
         assert!(totals(&cells, &find, &schedule).is_err());

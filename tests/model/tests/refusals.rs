@@ -156,7 +156,7 @@ fn of_two_faults_of_a_run_the_earlier_decides() {
 
 #[test]
 fn every_number_of_cells() {
-    let allowed = [8, 16, 32, 64, 128, 256, 512, 1_024, 2_048, 4_096];
+    let allowed = [1, 2, 4, 8, 16, 32, 64, 128, 256, 512, 1_024, 2_048, 4_096];
     for c in (0..=4_200).chain([8_192, 16_384, 65_536]) {
         let call = Call::new(table(c, &[]), &[operation("find", 1, 0)], &[0]);
         let what = format!("{c} cells");

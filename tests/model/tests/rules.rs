@@ -15,7 +15,7 @@ use support::words::{operation, table, GONE};
 
 #[test]
 fn homes_by_quotient_and_remainder() {
-    for k in 3..=12 {
+    for k in 0..=12 {
         let c = 1_u32 << k;
         for key in 1..=65_534_u64 {
             let expected = (key * 40_503 % 65_536) / (65_536 / u64::from(c));
@@ -29,7 +29,7 @@ fn no_home_where_the_key_or_the_cells_are_not_allowed() {
     for key in [0, 65_535, 65_536, 65_537, u32::MAX] {
         assert_eq!(home(key, 8), 65_535, "key {key}");
     }
-    for c in [0, 1, 4, 7, 9, 12, 4_095, 4_097, 8_192, 65_536, 1 << 31] {
+    for c in [0, 3, 5, 6, 7, 9, 12, 4_095, 4_097, 8_192, 65_536, 1 << 31] {
         assert_eq!(home(1, c), 65_535, "{c} cells");
     }
 }

@@ -1,6 +1,7 @@
 //! Every case that the specification works out, in its order and with every
-//! number it states; behind them the adds that hit the ceiling, document 02's
-//! A1, and their neighbours. Tables have 8 cells where no other number stands.
+//! number it states; behind them those of document 02 by its requests: the adds
+//! that hit the ceiling, A1, and tables of 1, 2 and 4 cells, A2, with their
+//! neighbours. Tables have 8 cells where no other number stands.
 
 mod support {
     pub mod answers;
@@ -262,8 +263,11 @@ fn a_key_in_two_cells_is_refused() {
 }
 
 #[test]
-fn four_or_twelve_cells_are_refused() {
-    for c in [4, 12] {
+fn twelve_cells_are_refused_and_four_run() {
+    for c in [1, 4] {
+        assert_eq!(Call::new(table(c, &[]), &[], &[]).run(), refused(0, 0));
+    }
+    for c in [0, 3, 12] {
         let mut call = Call::new(table(c, &[]), &[], &[]);
         let before = call.clone();
         assert_eq!(call.run(), refused(1, 0), "{c} cells");
@@ -339,7 +343,7 @@ fn load_bytes(file: &[u8]) -> Loaded {
 
 #[test]
 fn tables_of_the_least_and_most_cells_are_read() {
-    for (k, c) in [(3, 8), (12, 4_096)] {
+    for (k, c) in [(0, 1), (1, 2), (2, 4), (3, 8), (12, 4_096)] {
         let read = Loaded {
             number: 0,
             place: 0,
@@ -353,7 +357,7 @@ fn tables_of_the_least_and_most_cells_are_read() {
 }
 
 #[test]
-fn tables_of_fewer_or_more_cells_are_refused() {
+fn tables_of_more_cells_are_refused() {
     let refused = Loaded {
         number: 11,
         place: 0,
@@ -361,7 +365,7 @@ fn tables_of_fewer_or_more_cells_are_refused() {
         operations: 0,
         entries: 0,
     };
-    for k in [2, 13] {
+    for k in [13, 14, 16, 63, 64, 255] {
         assert_eq!(load_bytes(&tb(k)), refused);
         assert_eq!(text(&tb(k)), "refused 11 at 0\n");
     }
@@ -556,4 +560,84 @@ fn a_retried_add_whose_room_was_removed_is_inserted() {
         &[0, 1],
         &table(8, &[(4, 65_535, 0), (5, 1, 65_535)]),
     );
+}
+
+#[test]
+fn a_job_of_one_room_in_one_cell() {
+    // Both adds hold the empty cell; the second loses its swap and reads again.
+    let operations = [
+        operation("add", 1, 40),
+        operation("find", 2, 0),
+        operation("add", 2, 25),
+        operation("add", 1, 5),
+    ];
+    assert_leaves(
+        Call::new(table(1, &[]), &operations, &[0, 2, 0, 2, 1, 2, 3, 3]),
+        [4, 1, 0],
+        &[
+            answer("inserted", 0),
+            answer("absent", 0),
+            answer("full", 0),
+            answer("changed", 40),
+        ],
+        &[0, 1, 2, 3],
+        &table(1, &[(0, 1, 45)]),
+    );
+}
+
+#[test]
+fn a_job_of_one_room_text() {
+    let file = [tb(0), op(4, 1, 40), op(1, 2, 0), sc(&[0, 1, 0])];
+    // The find sees the empty cell.
+    let expected = "rows 2 done 2 lost 0 idle 0\n\
+                    row 0 add 1 40 inserted 0\n\
+                    row 1 find 2 0 absent 0\n\
+                    log 1 0\n\
+                    cell 0 1 40\n";
+    assert_eq!(text(&file.concat()), expected);
+    let file = [tb(0), cl(1, 1, 40)];
+    assert_eq!(text(&file.concat()), "refused 11 at 3\n");
+}
+
+#[test]
+fn after_the_second_of_two_cells_comes_the_first() {
+    // Rooms 1, 9 and 17 have their home in cell 1.
+    let operations = [
+        operation("add", 9, 25),
+        operation("add", 17, 1),
+        operation("find", 9, 0),
+    ];
+    assert_leaves(
+        Call::new(table(2, &[(1, 1, 40)]), &operations, &[0, 0, 0, 1, 2, 1, 2]),
+        [3, 0, 0],
+        &[
+            answer("inserted", 0),
+            answer("full", 0),
+            answer("found", 25),
+        ],
+        &[0, 1, 2],
+        &table(2, &[(0, 9, 25), (1, 1, 40)]),
+    );
+}
+
+#[test]
+fn four_full_cells_are_passed_in_four_steps() {
+    let full = table(4, &[(0, 2, 20), (1, 4, 40), (2, 1, 10), (3, 3, 30)]);
+    for (kind, amount, name) in [("add", 1, "full"), ("find", 0, "absent")] {
+        let row = [operation(kind, 5, amount)];
+        assert_leaves(
+            Call::new(full.clone(), &row, &[0; 3]),
+            [0, 0, 0],
+            &[answer("unfinished", 0)],
+            &[],
+            &full,
+        );
+        assert_leaves(
+            Call::new(full.clone(), &row, &[0; 4]),
+            [1, 0, 0],
+            &[answer(name, 0)],
+            &[0],
+            &full,
+        );
+    }
 }
