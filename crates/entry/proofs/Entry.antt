@@ -34,8 +34,8 @@ use Rattle.step.specs.declared.Record.{Record}
 use Rattle.step.specs.Record.{begun, passedOn, turned, leftAt, stepTaken}
 use Rattle.step.proofs.Steps.{within, passed-on, stands-reading, step-within}
 use Rattle.entry.specs.Lent.{Lent, cellIn, cellAt, placed, withCell, withAnswer}
-use Rattle.entry.specs.declared.Taken.{Taken}
-use Rattle.entry.specs.Entry.{Standing, told, storedBy, isPass, stepAt, takenBy, afterEntry}
+use Rattle.entry.specs.declared.Turned.{Turned}
+use Rattle.entry.specs.Entry.{Standing, told, storedBy, isPass, stepAt, turnedBy, afterEntry}
 use Rattle.entry.proofs.Lent.{placed-narrow, placed-wide}
 
 -- a turn adds to no record and to no cell
@@ -167,21 +167,23 @@ pass-step ceiling c operation r x e =
     (left ∙ ap (λ (s : Option (Pending Total)). leftAt ceiling c operation s x) (stands-reading (r .stage) (r .passed) (r .total) (t .reads))))
     ∙ ap (λ (q : Record). record { left = record { stores = false; cell = x; turn = Pass }; progress = q }) (passed-on c r inside)
 
--- what an entry leaves: the step that it takes, and what the turn adds
-pub leaves : (flagged : Bool) (c w i : ℕ) (s : Standing) {taken : Taken} {table′ : Lent} {q : Standing}
-    → let p = getD (s .records) i (begun 0) in
-    taken ≡ takenBy (stepAt flagged c w p (s .table)) → storedBy (s .table) (p .at) (stepAt flagged c w p (s .table) .left) ≡ table′
-    → told (taken .turn) i
-    (record { table = table′; records = set (s .records) i (taken .progress); answers = s .answers; log = s .log; finished = s .finished; lost = s .lost })
+-- what an entry leaves: the step that it takes, of its own record p, and what the turn adds
+pub leaves : (flagged : Bool) (c w i : ℕ) (s : Standing) {p : Record} → p ≡ getD (s .records) i (begun 0) → {turned : Turned} {table′ : Lent} {q : Standing}
+    → turned ≡ turnedBy (stepAt flagged c w p (s .table)) → storedBy (s .table) (p .at) (stepAt flagged c w p (s .table) .left) ≡ table′
+    → told (turned .turn) i
+    (record { table = table′; records = set (s .records) i (turned .progress); answers = s .answers; log = s .log; finished = s .finished; lost = s .lost })
     ≡ q
     → afterEntry flagged c w i s ≡ q
 unfolding afterEntry
-leaves flagged c w i s is stores adds = ap₂ leaving (sym is) stores ∙ adds
+leaves flagged c w i s own is stores adds = ap by (sym own) ∙ ap₂ leaving (sym is) stores ∙ adds
   where
-    leaving : Taken → Lent → Standing
+    leaving : Turned → Lent → Standing
     leaving x l =
         told (x .turn) i
         (record { table = l; records = set (s .records) i (x .progress); answers = s .answers; log = s .log; finished = s .finished; lost = s .lost })
+
+    by : Record → Standing
+    by p = let r = stepAt flagged c w p (s .table) in leaving (turnedBy r) (storedBy (s .table) (p .at) (r .left))
 
 -- turn by turn
 module _ (t : Turn) (i : ℕ) (s : Standing) where

@@ -158,6 +158,10 @@ pub laid-words : (flagged : Bool) (words : List ℕ) → wordsIn flagged (laidIn
 laid-words false words = refl
 laid-words true words = refl
 
+pub laid-others : (flagged : Bool) (words : List ℕ) → othersIn flagged (laidIn flagged words) ≡ []
+laid-others false words = refl
+laid-others true words = refl
+
 pub laid-long : (flagged : Bool) {l : Lent} (words : List ℕ) → l ≡ laidIn flagged words → length (l .narrow) + length (l .wide) ≡ length words
 laid-long false words e = ap (λ (l : Lent). length (l .narrow) + length (l .wide)) e ∙ omega arith
 laid-long true words e = ap (λ (l : Lent). length (l .narrow) + length (l .wide)) e ∙ omega arith

@@ -1,4 +1,4 @@
--- Must be believed of the promise of entry::take alone, down to storedBy; the rest is an aid: what `run` and `report` promise rests on
+-- Must be believed of the promise of entry::take alone, and turnedBy and isPass are aids: what `run` and `report` promise rests on
 -- semantics/specs.
 -- Document 01, "What one step does": what an entry that names an unfinished row leaves, on the words and records of the code. The step is that
 -- of step/specs/Record.antt.
@@ -18,15 +18,15 @@ use Rattle.rules.specs.declared.turn.Left.{Left}
 use Rattle.step.specs.declared.Record.{Record}
 use Rattle.step.specs.declared.Stepped.{Stepped}
 use Rattle.step.specs.Record.{begun, stepTaken}
-use Rattle.entry.specs.declared.Taken.{Taken}
+use Rattle.entry.specs.declared.Turned.{Turned}
 use Rattle.entry.specs.Lent.{Lent, operationIn, cellAt, withCell, withAnswer}
 
 -- the step of the row in a word, at the cell of the table where its record stands; what it leaves beside the table, and the table after it
 unfoldable pub stepAt : Bool → ℕ → ℕ → Record → Lent → Stepped
 stepAt flagged c w r l = stepTaken (widthOf flagged .ceiling) c (operationIn (widthOf flagged) w) r (cellAt l (r .at))
 
-abbrev pub takenBy : Stepped → Taken
-takenBy s = record { turn = s .left .turn; progress = s .progress }
+abbrev pub turnedBy : Stepped → Turned
+turnedBy s = record { turn = s .left .turn; progress = s .progress }
 
 unfoldable pub storedBy : Lent → ℕ → Left → Lent
 storedBy l at left = cond (left .stores) (withCell l at (left .cell)) l

@@ -1,3 +1,4 @@
 pub mod Lent
 pub mod Entry
 pub mod First
+pub mod Underway

@@ -35,7 +35,7 @@ pub fn clear(answers32: &mut [u32], answers64: &mut [u64], n: usize)
 
 // An operation finishes: its answer is written, and it enters the log behind those that finished before
 // it. Gives the set of finished operations with it.
-pub fn finish(
+pub(crate) fn finish(
     answers32: &mut [u32],
     answers64: &mut [u64],
     log: &mut [u8],

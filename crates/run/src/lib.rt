@@ -4,23 +4,17 @@
 // answers are two slices each, of narrow words and of wide ones, of which one is empty. What asks something
 // of its caller is private here.
 ghost use mathlib.Core.Path.{_≡_};
-ghost use mathlib.Core.List.{List};
 ghost use Prim.Native.Nat.{_<_};
 ghost use Rattle.semantics.specs.Sets.{isIn};
-ghost use Rattle.semantics.specs.Refusals.{mostEntries};
 ghost use Rattle.semantics.specs.Narrow.{narrowWidth};
 ghost use Rattle.semantics.specs.Widths.{widthOf};
-ghost use Rattle.semantics.specs.Run.{machine, acceptedResult};
+ghost use Rattle.semantics.specs.Run.{runResult};
 ghost use Rattle.semantics.specs.Demands.{Demands};
-ghost use Rattle.step.specs.declared.Record.{Record};
-ghost use Rattle.entry.specs.Lent.{Lent, wordsIn, Ready};
-ghost use Rattle.entry.specs.Entry.{told};
+ghost use Rattle.entry.specs.Lent.{wordsIn, Ready};
 use bitset::size;
 use entry::answers::clear;
-use entry::answers::finish;
 use entry::begin;
 use entry::take;
-use rules::turn::Turn;
 use semantics::Outcome;
 use validate::validate;
 
@@ -32,61 +26,9 @@ fn is_finished(finished: u64, entry: u8) -> bool
     (finished >> entry) & 1 == 1
 }
 
-// What a run counts: the set of finished operations, and the lost swaps.
-struct Counts {
-    finished: u64,
-    lost: usize,
-}
-
-// What the turn of an entry's operation adds: its answer and its place in the log, where it finished; or a
-// lost swap. Whatever the table and the records are, they stay.
-fn settle(
-    answers32: &mut [u32],
-    answers64: &mut [u64],
-    log: &mut [u8],
-    entry: u8,
-    turn: Turn,
-    finished: u64,
-    lost: usize,
-) -> Counts
-    requires { ⌜ lost < mostEntries ⌝ }
-    ensures { λ r. ⌜ ((table : Lent) (records : List Record) → told turn entry (record {
-      table = table;
-      records = records;
-      answers = record { narrow = now (answers32 .entry); wide = now (answers64 .entry) };
-      log = now (log .entry);
-      finished = finished;
-      lost = lost;
-    })
-        ≡ record {
-          table = table;
-          records = records;
-          answers = record { narrow = now (answers32 .exit); wide = now (answers64 .exit) };
-          log = now (log .exit);
-          finished = r .finished;
-          lost = r .lost;
-        }) ⌝ }
-{
-    match turn {
-        Turn::Finish(answer) => {
-            let grown = finish(answers32, answers64, log, finished, entry, answer);
-            Counts {
-                finished: grown,
-                lost: lost,
-            }
-        }
-        Turn::Lose => Counts {
-            finished: finished,
-            lost: lost + 1,
-        },
-        _ => Counts {
-            finished: finished,
-            lost: lost,
-        },
-    }
-}
-
-// Takes the schedule's entries in turn, on a call that is not turned away, wide or narrow.
+// Takes the schedule's entries in turn, on a call that is not turned away, wide or narrow. Once all checks are
+// past, every operation's 0 goes to the lent answers, then each answer at the entry that finishes its
+// operation: there is no other array of answers.
 fn entries(
     flagged: bool,
     narrow: &mut [u32],
@@ -99,9 +41,8 @@ fn entries(
 ) -> Outcome
     requires { ⌜ Ready flagged (record { narrow = now narrow; wide = now wide }) (now operations) (now schedule)
         (record { narrow = now answers32; wide = now answers64 }) (now log) ⌝ }
-    ensures { λ r. ⌜ acceptedResult (widthOf flagged)
-        (machine (widthOf flagged) (wordsIn flagged (record { narrow = now (narrow .entry); wide = now (wide .entry) })) (now (operations .entry)) (now (schedule .entry)))
-        (wordsIn flagged (record { narrow = now (answers32 .entry); wide = now (answers64 .entry) })) (now (log .entry))
+    ensures { λ r. ⌜ runResult (widthOf flagged) (wordsIn flagged (record { narrow = now (narrow .entry); wide = now (wide .entry) })) (now (operations .entry))
+        (now (schedule .entry)) (wordsIn flagged (record { narrow = now (answers32 .entry); wide = now (answers64 .entry) })) (now (log .entry))
         ≡ record {
           outcome = r;
           cells = wordsIn flagged (record { narrow = now (narrow .exit); wide = now (wide .exit) });
@@ -113,9 +54,11 @@ fn entries(
     clear(answers32, answers64, operations.len());
     let mut records = begin(flagged, c as u32, operations);
     let mut finished = 0;
-    let mut lost = 0;
+    let mut lost = 0u32;
     let mut idle = 0;
     let mut k = 0;
+    // After every entry the slices hold what a run ending there leaves: a run of the first k. An idle entry
+    // leaves them as they are, and any other is for take, which promises it.
     while k < schedule.len() {
         let entry = schedule[k];
         k = k + 1;
@@ -124,19 +67,31 @@ fn entries(
             continue;
         }
         let i = entry as usize;
-        let taken = take(narrow, wide, c, flagged, operations[i], records[i]);
-        let turn = taken.turn;
-        let counts = settle(answers32, answers64, log, entry, turn, finished, lost);
-        finished = counts.finished;
-        lost = counts.lost;
+        let taken = take(
+            flagged,
+            narrow,
+            wide,
+            c,
+            answers32,
+            answers64,
+            log,
+            entry,
+            operations[i],
+            records[i],
+            finished,
+            lost,
+        );
         let progress = taken.progress;
         records[i] = progress;
+        finished = taken.finished;
+        lost = taken.lost as u32;
     }
+    let swaps = lost as usize;
     Outcome {
         number: 0,
         place: 0,
         done: size(finished),
-        lost: lost,
+        lost: swaps,
         idle: idle,
     }
 }

@@ -212,7 +212,7 @@ module _ {W : Width} (P : Packing W) (cells operations schedule answers log : Li
     ok-after : (k : ℕ) → refusalOf W cells operations (take k schedule) answers log .number ≡ 0
     ok-after k = beginning-accepted W cells operations schedule (length answers) (length log) k e
 
-    rules : (k : ℕ) → result-after k ≡ acceptedResult W (machine W cells operations (take k schedule)) answers log
+    pub rules : (k : ℕ) → result-after k ≡ acceptedResult W (machine W cells operations (take k schedule)) answers log
     rules k = accepted W cells operations (take k schedule) answers log (ok-after k)
 
     passed : (k : ℕ) → Passed W (called k)

@@ -71,7 +71,8 @@ Untouched schedule after =
     (n k : ℕ) → k < n → k < length schedule → occurs (getD schedule k 0) (logOf (after n)) ≡ 0 → after (k + 1) .cells ≡ after k .cells
 
 module _ (W : Width) (cells operations schedule answers log : List ℕ) where
-  -- what the first k entries come to: the result of a call with those alone. With k the schedule's length, or more, it is that of all.
+  -- what the first k entries come to: the result of a call with those alone. With k the schedule's length, or more, it is that of all. On the
+  -- way there the slices hold the same after k entries: `entry::take` promises it, in its clause holds.
   abbrev pub afterEntries : ℕ → Result
   afterEntries k = runResult W cells operations (take k schedule) answers log
 

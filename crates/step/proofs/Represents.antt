@@ -11,18 +11,18 @@ use native.Mathlib.Omega.{arith}
 use borrow.Author.Tests.{eq-eqb, ne-eqb}
 use Rattle.semantics.specs.declared.Total.{Total}
 use Rattle.semantics.specs.Cells.{Setting, Cell, Operation}
-use Rattle.semantics.specs.Step.{Turn, passes, holds, loses, finishes, Held, vacant, mine, Pending, reading, holding, State, pending, finished}
+use Rattle.semantics.specs.Step.{Turn, passes, holds, loses, finishes, Held, vacant, mine, Pending, reading, holding, pending}
 use Rattle.semantics.specs.Step.{after, heldCell, sameCell, swapped, step, passed, placeOf}
 use Rattle.semantics.specs.Step as rules
 use Rattle.semantics.specs.Words.{settingAt, isKind, homeIn}
 use Rattle.rules.specs.declared.effect.Operation.{Operation as OperationParts}
 use Rattle.rules.specs.declared.effect.Cell.{Cell as CellParts}
-use Rattle.rules.specs.Values.{operationOf, cellOf, answerParts}
+use Rattle.rules.specs.Values.{operationOf, cellOf}
 use Rattle.rules.specs.declared.turn.Turn.the-variants.{Refuse}
 use Rattle.rules.specs.Turn.{heldParts, turnParts, stores, leftBy, stepOf}
 use Rattle.step.specs.declared.Record.{Record}
 use Rattle.step.specs.declared.Stepped.{Stepped}
-use Rattle.step.specs.Record.{readingAt, following, stageHeld, totalHeld, holdingWord, finishing, turned, heldAt, standing, isWithin, leftAt, stepTaken}
+use Rattle.step.specs.Record.{readingAt, following, stageHeld, totalHeld, place, recordOf, turned, heldAt, standing, isWithin, leftAt, stepTaken}
 use Rattle.step.proofs.Steps.{within, step-within}
 
 -- the following cell of the one at p passed is the one at p + 1
@@ -33,17 +33,9 @@ following-mod c n h =
       | no q ↦ rw (ne-eqb (n % c + 1) c q) (sym (suc-mod n c ∙ mod-eq-of-lt (omega (arith, mod-lt n h)) ∙ omega arith))
     ]
 
--- the record of an operation of key k, in c cells: it stands p cells after the key's home; and that of one that has finished
+-- of an operation of key k, in c cells
 module _ (c k : ℕ) where
-  abbrev place : ℕ → ℕ
-  place p = (homeIn c k + p) % c
-
-  unfoldable pub recordOf : State Total → Record
-  recordOf (pending (reading p)) = readingAt (place p) p
-  recordOf (pending (holding p h)) = holdingWord (readingAt (place p) p) (heldParts h)
-  recordOf (finished a) = finishing (answerParts a)
-
-  next-place : (p : ℕ) → 0 < c → following c (place p) ≡ place (suc p)
+  next-place : (p : ℕ) → 0 < c → following c (place c k p) ≡ place c k (suc p)
   next-place p h = following-mod c (homeIn c k + p) h ∙ ap (λ (z : ℕ). z % c) (omega arith)
 
   module _ (ceiling : ℕ) where
@@ -51,30 +43,30 @@ module _ (c k : ℕ) where
     S = settingAt ceiling c
 
     -- where the record of an unfinished operation stands
-    pub record-at : (s : Pending Total) → recordOf (pending s) .at ≡ placeOf S k (passed S s)
+    pub record-at : (s : Pending Total) → recordOf c k (pending s) .at ≡ placeOf S k (passed S s)
     unfolding recordOf passed placeOf
     record-at (reading p) = refl
     record-at (holding p h) = refl
 
-    record-passed : (s : Pending Total) → recordOf (pending s) .passed ≡ passed S s
+    record-passed : (s : Pending Total) → recordOf c k (pending s) .passed ≡ passed S s
     unfolding recordOf passed
     record-passed (reading p) = refl
     record-passed (holding p h) = refl
 
-    record-within : 0 < c → (s : Pending Total) → passed S s < c → isWithin c (recordOf (pending s)) ≡ true
+    record-within : 0 < c → (s : Pending Total) → passed S s < c → isWithin c (recordOf c k (pending s)) ≡ true
     unfolding placeOf
     record-within size s less =
-        within c (recordOf (pending s)) (omega (arith, record-at s, mod-lt (homeIn c k + passed S s) size)) (omega (arith, record-passed s))
+        within c (recordOf c k (pending s)) (omega (arith, record-at s, mod-lt (homeIn c k + passed S s) size)) (omega (arith, record-passed s))
 
     -- a record turns as the state does
-    turned-is : 0 < c → (s : Pending Total) (t : Turn Total) → turned c (recordOf (pending s)) (turnParts t) ≡ recordOf (after (passed S s) t)
+    turned-is : 0 < c → (s : Pending Total) (t : Turn Total) → turned c (recordOf c k (pending s)) (turnParts t) ≡ recordOf c k (after (passed S s) t)
     unfolding turned turnParts recordOf after passed
     turned-is size s t = go s t
       where
-        moved : (p : ℕ) → readingAt (following c (place p)) (p + 1) ≡ recordOf (pending (reading (suc p)))
+        moved : (p : ℕ) → readingAt (following c (place c k p)) (p + 1) ≡ recordOf c k (pending (reading (suc p)))
         moved p = ap₂ readingAt (next-place p size) (omega arith)
 
-        go : (s : Pending Total) (t : Turn Total) → turned c (recordOf (pending s)) (turnParts t) ≡ recordOf (after (passed S s) t)
+        go : (s : Pending Total) (t : Turn Total) → turned c (recordOf c k (pending s)) (turnParts t) ≡ recordOf c k (after (passed S s) t)
         go (reading p) passes = moved p
         go (reading p) (holds g) = refl
         go (reading p) loses = refl
@@ -85,7 +77,7 @@ module _ (c k : ℕ) where
         go (holding p h) (finishes a) = refl
 
   -- the record of an unfinished operation says where it stands
-  record-stands : (s : Pending Total) → let r = recordOf (pending s) in standing (r .stage) (r .passed) (r .total) ≡ some s
+  record-stands : (s : Pending Total) → let r = recordOf c k (pending s) in standing (r .stage) (r .passed) (r .total) ≡ some s
   unfolding recordOf standing heldAt stageHeld totalHeld heldParts
   record-stands (reading p) = refl
   record-stands (holding p vacant) = refl

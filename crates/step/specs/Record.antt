@@ -3,28 +3,27 @@
 -- for any record and any cell. The rules are those of semantics/specs/Step.antt; proofs/Represents.antt shows that on the records of a run this
 -- is the step of that file.
 -- Assumes nothing.
-use Prim.Native.Nat.{ℕ, _+_}
+use Prim.Native.Nat.{ℕ, _+_, _%_}
 use mathlib.Core.Bool.{Bool, false, cond, _&&_}
 use mathlib.Core.Option.{Option, none, some}
 use lib.Dec.{eqb, ltb}
 use Rattle.semantics.specs.declared.Total.{Total}
-use Rattle.semantics.specs.Step.{Held, vacant, mine, Pending, reading, holding}
+use Rattle.semantics.specs.Step.{Held, vacant, mine, Pending, reading, holding, State, pending, finished}
 use Rattle.rules.specs.declared.effect.Operation.{Operation as OperationParts}
 use Rattle.rules.specs.declared.effect.Cell.{Cell as CellParts}
-use Rattle.rules.specs.declared.effect.Answer.{Answer as AnswerParts}
-use Rattle.semantics.specs.Words.{nothing}
+use Rattle.semantics.specs.Words.{nothing, homeIn}
 use Rattle.rules.specs.declared.turn.Held.{Held as HeldParts}
 use Rattle.rules.specs.declared.turn.Held.the-variants.{Vacant, Mine}
 use Rattle.rules.specs.declared.turn.Turn.{Turn as TurnParts}
 use Rattle.rules.specs.declared.turn.Turn.the-variants.{Pass, Hold, Lose, Finish, Refuse}
 use Rattle.rules.specs.declared.turn.Left.{Left}
-use Rattle.rules.specs.Turn.{stepOf}
+use Rattle.rules.specs.Turn.{heldParts, stepOf}
 use Rattle.step.specs.declared.Record.{Record}
 use Rattle.step.specs.declared.Stepped.{Stepped}
 
 -- a record that reads. "It begins reading at the key's home, with 0 cells passed."
 abbrev pub readingAt : ℕ → ℕ → Record
-readingAt at passed = record { at = at; passed = passed; stage = 0; code = 0; total = nothing }
+readingAt at passed = record { at = at; passed = passed; stage = 0; total = nothing }
 
 abbrev pub begun : ℕ → Record
 begun home = readingAt home 0
@@ -46,21 +45,32 @@ totalHeld Vacant = nothing
 totalHeld (Mine t) = t
 
 abbrev pub holdingWord : Record → HeldParts → Record
-holdingWord r h = record { at = r .at; passed = r .passed; stage = stageHeld h; code = 0; total = totalHeld h }
+holdingWord r h = record { at = r .at; passed = r .passed; stage = stageHeld h; total = totalHeld h }
 
 abbrev pub losing : Record → Record
 losing r = readingAt (r .at) (r .passed)
 
-abbrev pub finishing : AnswerParts → Record
-finishing a = record { at = 0; passed = 0; stage = 3; code = a .code; total = a .total }
+-- its answer is in the turn alone
+abbrev pub finishing : Record
+finishing = record { at = 0; passed = 0; stage = 3; total = nothing }
 
 -- the record after a turn, in c cells
 unfoldable pub turned : ℕ → Record → TurnParts → Record
 turned c r Pass = passing c r
 turned c r (Hold h) = holdingWord r h
 turned c r Lose = losing r
-turned c r (Finish a) = finishing a
+turned c r (Finish a) = finishing
 turned c r Refuse = r
+
+-- the record of an operation of key k, in c cells, by its state in the rules: it stands p cells after the key's home, or has finished
+module _ (c k : ℕ) where
+  abbrev pub place : ℕ → ℕ
+  place p = (homeIn c k + p) % c
+
+  unfoldable pub recordOf : State Total → Record
+  recordOf (pending (reading p)) = readingAt (place p) p
+  recordOf (pending (holding p h)) = holdingWord (readingAt (place p) p) (heldParts h)
+  recordOf (finished a) = finishing
 
 -- where an operation stands, by the stage of its record: 0 reading, 1 holding the empty word, 2 holding its key with a total
 unfoldable pub heldAt : ℕ → Total → Held Total

@@ -8,7 +8,6 @@ ghost use Prim.Native.Nat.{_<_};
 ghost use Rattle.rules.specs.declared.turn.Turn.the-variants.{Refuse};
 ghost use Rattle.rules.specs.Turn.{heldOf};
 ghost use Rattle.step.specs.Record.{readingAt, passing, holdingWord, losing, finishing, turned, isWithin, passedOn, heldAt, standing, leftAt, stepTaken};
-use rules::effect::Answer;
 use rules::effect::Cell;
 use rules::effect::NOTHING;
 use rules::effect::Operation;
@@ -21,23 +20,22 @@ use semantics::Total;
 
 // Where a record stands: reading, holding the empty word, holding its own key with a total, or
 // finished.
-pub const READING: u32 = 0;
+pub const READING: u64 = 0;
 
-pub const VACANT: u32 = 1;
+pub const VACANT: u64 = 1;
 
-pub const MINE: u32 = 2;
+pub const MINE: u64 = 2;
 
-pub const FINISHED: u32 = 3;
+pub const FINISHED: u64 = 3;
 
 // How far an operation has come (document 01: a row's record): the cell that it reads next, how many
-// cells it has passed, its stage, and the total that it holds; once it has finished, the code and the
-// total of its answer. A run stores one for each operation and copies one at each entry, so its fields
-// leave no room between them.
+// cells it has passed, its stage, and the total that it holds. Its answer is not kept: the turn that
+// finishes it has the answer. A run stores one for each operation and copies one at each entry, so its
+// fields leave no room between them.
 pub struct Record {
     pub at: usize,
     pub passed: usize,
-    pub stage: u32,
-    pub code: u32,
+    pub stage: u64,
     pub total: Total,
 }
 
@@ -80,14 +78,12 @@ impl Record {
                 at: self.at,
                 passed: self.passed,
                 stage: VACANT,
-                code: 0,
                 total: NOTHING,
             },
             Held::Mine(total) => Record {
                 at: self.at,
                 passed: self.passed,
                 stage: MINE,
-                code: 0,
                 total: total,
             },
         }
@@ -100,17 +96,15 @@ impl Record {
         reading(self.at, self.passed)
     }
 
-    // Nothing is left but the answer.
-    fn finish(self, answer: Answer) -> Record
-        ensures { λ r. ⌜ r ≡ finishing answer ⌝ }
+    // Nothing is left to do, and nothing is kept but that.
+    fn finish(self) -> Record
+        ensures { λ r. ⌜ r ≡ finishing ⌝ }
     {
-        let total = answer.total;
         Record {
             at: 0,
             passed: 0,
             stage: FINISHED,
-            code: answer.code,
-            total: total,
+            total: NOTHING,
         }
     }
 
@@ -123,7 +117,7 @@ impl Record {
             Turn::Pass => self.pass(c),
             Turn::Hold(held) => self.hold(held),
             Turn::Lose => self.lose(),
-            Turn::Finish(answer) => self.finish(answer),
+            Turn::Finish(_) => self.finish(),
             Turn::Refuse => self,
         }
     }
@@ -137,7 +131,6 @@ pub fn reading(at: usize, passed: usize) -> Record
         at: at,
         passed: passed,
         stage: READING,
-        code: 0,
         total: NOTHING,
     }
 }
@@ -153,7 +146,7 @@ pub fn pass_on(progress: Record, c: usize) -> Record
 }
 
 // The word that is held, at a stage that holds one: the empty word, or the key with the total.
-fn held_at(stage: u32, total: Total) -> Held
+fn held_at(stage: u64, total: Total) -> Held
     ensures { λ r. ⌜ heldOf r ≡ heldAt stage total ⌝ }
 {
     if stage == VACANT {

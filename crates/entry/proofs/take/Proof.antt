@@ -1,94 +1,77 @@
--- `entry::take` meets its contract: a pass is a step that is told early, and any other is the step of step.
+-- `entry::take` meets its contract: what the turn of its step adds, turn by turn.
 -- Assumes nothing.
-use mathlib.Core.Path.{_≡_, refl, sym, ap, _∙_}
-use mathlib.Core.Bool.{true, false}
-use Rattle.semantics.specs.Widths.{widthOf}
-use Rattle.rules.specs.declared.turn.Turn.the-variants.{Pass}
-use Rattle.step.specs.declared.Stepped.{Stepped}
-use Rattle.step.specs.Record.{stepTaken, passedOn}
-use Rattle.entry.specs.Lent.{Lent, operationIn, cellAt}
-use Rattle.entry.specs.Entry.{isPass, stepAt, takenBy, storedBy}
-use Rattle.entry.proofs.Lent.{stored-none}
-use Rattle.entry.proofs.Entry.{pass-step}
+use mathlib.Core.Path.{_≡_, subst}
+use Prim.Native.Nat.{ℕ}
+use mathlib.Core.List.{List, [], _∷_}
+use types.Run.{OneOf, miss}
+use denote.Enum.Declared.{tagOf}
+use lib.ListN.{set}
+use Rattle.rules.specs.declared.turn.Turn.{Turn}
+use Rattle.rules.proofs.turn.Turn as turn
+use Rattle.step.specs.declared.Record.{Record}
+use Rattle.entry.specs.Entry.{Standing}
+use Rattle.entry.proofs.Entry.{adds-answer, adds-lost, adds-nothing}
+use Rattle.entry.proofs.Loop.{at-once}
 use borrow.Author.Needs.{needs}
 use Rattle.entry.proofs.take.Statement.{statement}
 use Rattle.entry.proofs.take.Tie as tie
 
 -- the contexts that the facts look back to
-abbrev after-key-in : tie.After-load-key → tie.After-key-in
-after-key-in c = c .before .before .before
+abbrev stepped : tie.After-next → tie.After-step-in
+stepped c = c .before .before .before .before .before
 
-abbrev after-load-key : tie.Then1 → tie.After-load-key
-after-load-key c = c .before .before
+abbrev start : tie.After-step-in → tie.Start
+start c = c .before .before .before .before .before .before .before .before
 
-abbrev start : tie.After-is-pass → tie.Start
-start c = after-key-in (c .before) .before .before .before .before
+abbrev after-finish : tie.After-slice-known10 → tie.After-finish
+after-finish c = c .before .before .before .before .before .before
 
-abbrev after-load : tie.After-take-step → tie.After-load
-after-load c = c .before .before .before
+abbrev after-turn : tie.After-finish → tie.After-turn
+after-turn c = c .before .before .before .before .before
 
-abbrev after-ceiling-of : tie.After-take-step → tie.After-ceiling-of
-after-ceiling-of c = c .before .before
+-- where the run stands before the entry, and after its step, before what its turn adds
+abbrev standing : tie.Start → List Record → Standing
+standing c records =
+    let a = c .args in
+    record {
+      table = record { narrow = a .narrow .now; wide = a .wide .now };
+      records = records;
+      answers = record { narrow = a .answers32 .now; wide = a .answers64 .now };
+      log = a .log .now;
+      finished = a .finished;
+      lost = a .lost;
+    }
 
-abbrev after-is-pass : tie.After-load → tie.After-is-pass
-after-is-pass c = c .before .before .before .before
+abbrev stored : tie.After-step-in → List Record → Standing
+stored c records =
+    let a = start c .args in
+    record {
+      table = record { narrow = c .step-in .last .0; wide = c .step-in .last .1 .0 };
+      records = set records (a .entry) (c .step-in .result .progress);
+      answers = record { narrow = a .answers32 .now; wide = a .answers64 .now };
+      log = a .log .now;
+      finished = a .finished;
+      lost = a .lost;
+    }
 
-abbrev after-store : tie.After-slice-known4 → tie.After-store
-after-store c = c .before .before .before .before
+-- a turn whose tag is among the keys of the last arm is none of another tag
+is-none : (ks : List ℕ) {x y : Turn} → OneOf ks (tagOf turn.the-type y) → (OneOf ks (tagOf turn.the-type x) → ⊥) → y ≡ x → ⊥
+is-none ks among other q = other (subst (λ (e : Turn). OneOf ks (tagOf turn.the-type e)) q among)
 
-abbrev after-take-step : tie.After-store → tie.After-take-step
-after-take-step c = c .before .before .before .before .before
+step-in-requires : tie.Need-step-in-requires
+step-in-requires c κs = search needs
 
--- the table that is lent, and the step of the contract there
-abbrev table : tie.Start → Lent
-table s = record { narrow = s .args .narrow .now; wide = s .args .wide .now }
+enum-known-turn : tie.Need-enum-known-turn
+enum-known-turn c = search needs
 
-abbrev asked : tie.Start → Stepped
-asked s = stepAt (s .args .flagged) (s .args .c) (s .args .w) (s .args .progress) (table s)
+finish-requires : tie.Need-finish-requires
+finish-requires c κs = search needs
 
--- a step that is told to be a pass
-told-pass : (c : tie.Then1)
-    → let s = start (c .before) in
-    let o = operationIn (widthOf (s .args .flagged)) (s .args .w) in
-    isPass (o .kind) (o .key) (cellAt (table s) (s .args .progress .at) .key) (s .args .c) (s .args .progress) ≡ true
-told-pass c =
-    let s = start (c .before) in
-    let keys = after-load-key c in
-    let kind = after-key-in keys .before .kind-in .ensures in
-    let own = after-key-in keys .key-in .ensures in
-    let key = keys .load-key .ensures in
-    (λ i. isPass (sym kind i) (sym own i) (sym key i) (s .args .c) (s .args .progress)) ∙ sym (c .before .is-pass .ensures) ∙ c .if1 .taken
+enum-told : tie.Need-enum-told
+enum-told c = search needs
 
-passed : (c : tie.Then1)
-    → let s = start (c .before) in
-    asked s ≡ record { left = record { stores = false; cell = cellAt (table s) (s .args .progress .at); turn = Pass }; progress = passedOn (s .args .c) (s .args .progress) }
-unfolding stepAt
-passed c = let s = start (c .before) in pass-step _ _ (operationIn (widthOf (s .args .flagged)) (s .args .w)) _ _ (told-pass c)
-
--- any other
-stepped : (c : tie.After-take-step) → c .take-step .result ≡ asked (start (after-is-pass (after-load c)))
-unfolding stepAt
-stepped c =
-    let s = start (after-is-pass (after-load c)) in
-    let ceiling = after-ceiling-of c .ceiling-of .ensures in
-    let operation = c .before .operation-of .ensures in
-    let cell = after-load c .load .ensures in
-    c .take-step .ensures ∙ (λ i. stepTaken (ceiling i) (s .args .c) (operation i) (s .args .progress) (cell i))
-
-kind-in-requires : tie.Need-kind-in-requires
-kind-in-requires c κs = search needs
-
-key-in-requires : tie.Need-key-in-requires
-key-in-requires c κs = search needs
-
-load-key-requires : tie.Need-load-key-requires
-load-key-requires c κs = search needs
-
-is-pass-requires : tie.Need-is-pass-requires
-is-pass-requires c κs = search needs
-
-pass-on-requires : tie.Need-pass-on-requires
-pass-on-requires c κs = search needs
+add-more : tie.Need-add-more
+add-more c = search needs
 
 same-length : tie.Need-same-length
 same-length c = search needs
@@ -96,63 +79,72 @@ same-length c = search needs
 same-length-2 : tie.Need-same-length-2
 same-length-2 c = search needs
 
-returns : tie.Need-returns
-returns c =
-    let told = c .before in
-    let s = start (told .before) in
-    let pass = passed told in
-    let left = ap (λ (x : Stepped). x .left) pass in (
-      (λ i. record { turn = Pass; progress = c .pass-on .ensures i }) ∙ ap takenBy (sym pass),
-      ap (storedBy (table s) (s .args .progress .at)) left ∙ stored-none _ _ _ refl,
-    )
-
-load-requires : tie.Need-load-requires
-load-requires c κs = search needs
-
-ceiling-of-requires : tie.Need-ceiling-of-requires
-ceiling-of-requires c κs = search needs
-
-operation-of-requires : tie.Need-operation-of-requires
-operation-of-requires c κs = search needs
-
-take-step-requires : tie.Need-take-step-requires
-take-step-requires c κs = search needs
-
-store-requires : tie.Need-store-requires
-store-requires c κs = search needs
-
 same-length-3 : tie.Need-same-length-3
 same-length-3 c = search needs
 
 same-length-4 : tie.Need-same-length-4
 same-length-4 c = search needs
 
+same-length-5 : tie.Need-same-length-5
+same-length-5 c = search needs
+
+returns : tie.Need-returns
+returns c = λ records own.
+    let finish = after-finish c in
+    let arm = after-turn finish in
+    let step = stepped (arm .before .before) in
+    let a = start step .args in
+    let done = finish .finish .ensures in
+    at-once (a .flagged) (a .c) (a .w) (a .entry) (standing (start step) records) own (step .step-in .ensures .0) (step .step-in .ensures .1)
+    (adds-answer (step .step-in .result .turn) (a .entry) (stored step records) (arm .turn .given .1) (done .1) (done .2) (done .0))
+
+same-length-6 : tie.Need-same-length-6
+same-length-6 c = search needs
+
+same-length-7 : tie.Need-same-length-7
+same-length-7 c = search needs
+
 returns-2 : tie.Need-returns-2
-returns-2 c =
-    let store = after-store c in
-    let step = after-take-step store in
-    let s = start (after-is-pass (after-load step)) in (
-      ap takenBy (stepped step),
-      ap (λ (x : Stepped). storedBy (table s) (s .args .progress .at) (x .left)) (sym (stepped step)) ∙ store .store .ensures,
-    )
+returns-2 c = λ records own.
+    let step = stepped (c .before .before) in
+    let a = start step .args in
+    at-once (a .flagged) (a .c) (a .w) (a .entry) (standing (start step) records) own (step .step-in .ensures .0) (step .step-in .ensures .1)
+    (adds-lost (step .step-in .result .turn) (a .entry) (stored step records) (c .enum-told .given .1))
+
+same-length-8 : tie.Need-same-length-8
+same-length-8 c = search needs
+
+same-length-9 : tie.Need-same-length-9
+same-length-9 c = search needs
+
+returns-3 : tie.Need-returns-3
+returns-3 c = λ records own.
+    let step = stepped (c .before) in
+    let a = start step .args in
+    let rest : List ℕ = 0 ∷ 1 ∷ 4 ∷ [] in
+    let keys = c .match .keys3 in
+    at-once (a .flagged) (a .c) (a .w) (a .entry) (standing (start step) records) own (step .step-in .ensures .0) (step .step-in .ensures .1)
+    (adds-nothing (step .step-in .result .turn) (a .entry) (stored step records)
+    (λ a. is-none rest keys (miss rest 3 tt)) (is-none rest keys (miss rest 2 tt)))
 
 pub take-spec : {M : Type 1} → statement M
 take-spec =
     tie.close
     (tie.spec
-    kind-in-requires
-    key-in-requires
-    load-key-requires
-    is-pass-requires
-    pass-on-requires
+    step-in-requires
+    enum-known-turn
+    finish-requires
+    enum-told
+    add-more
     same-length
     same-length-2
-    returns
-    load-requires
-    ceiling-of-requires
-    operation-of-requires
-    take-step-requires
-    store-requires
     same-length-3
     same-length-4
-    returns-2)
+    same-length-5
+    returns
+    same-length-6
+    same-length-7
+    returns-2
+    same-length-8
+    same-length-9
+    returns-3)

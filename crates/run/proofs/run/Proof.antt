@@ -5,7 +5,7 @@ use Rattle.semantics.specs.declared.Refusal.{Refusal}
 use Rattle.semantics.specs.Narrow.{narrowWidth}
 use Rattle.semantics.specs.Run.{refusalOf, refusedResult}
 use Rattle.semantics.proofs.Narrow.{narrow-packing}
-use Rattle.semantics.proofs.WordsHold.{accepted, refused, demands-of}
+use Rattle.semantics.proofs.WordsHold.{refused, demands-of}
 use borrow.Author.Needs.{needs}
 use Rattle.run.proofs.run.Statement.{statement}
 use Rattle.run.proofs.run.Tie as tie
@@ -24,12 +24,9 @@ start c = c .before .before .before .before .before .before .before
 abbrev judged : tie.Then1 → tie.After-validate
 judged c = c .before .before
 
--- the entries as the end sees them, and the arm that they are taken in
+-- the entries as the end sees them
 abbrev ran : tie.After-slice-known6 → tie.After-entries
 ran c = c .before .before .before .before .before .before .before .before
-
-abbrev taken-in : tie.After-entries → tie.Then1
-taken-in c = then1 (c .before)
 
 -- a call that is not turned away
 number-0 : (c : tie.Then1)
@@ -60,7 +57,7 @@ same-length-3 c = search needs
 
 returns : tie.Need-returns
 returns c =
-    demands-of narrow-packing _ _ _ _ _ _ (accepted narrowWidth _ _ _ _ _ (number-0 (taken-in (ran c))) ∙ ran c .entries .ensures)
+    demands-of narrow-packing _ _ _ _ _ _ (ran c .entries .ensures)
 
 same-length-4 : tie.Need-same-length-4
 same-length-4 c = search needs

@@ -10,9 +10,6 @@ use Rattle.step.proofs.Record.turn.Tie as tie
 abbrev after-turn : tie.After-hold → tie.After-turn
 after-turn c = c .before .before
 
-abbrev after-turn2 : tie.After-finish → tie.After-turn2
-after-turn2 c = c .before .before
-
 enum-told : tie.Need-enum-told
 enum-told c = search needs
 
@@ -31,14 +28,14 @@ enum-told-2 c = search needs
 lose-requires : tie.Need-lose-requires
 lose-requires c κs = search needs
 
-enum-known-turn-2 : tie.Need-enum-known-turn-2
-enum-known-turn-2 c = search needs
+enum-told-3 : tie.Need-enum-told-3
+enum-told-3 c = search needs
 
 finish-requires : tie.Need-finish-requires
 finish-requires c κs = search needs
 
-enum-told-3 : tie.Need-enum-told-3
-enum-told-3 c = search needs
+enum-told-4 : tie.Need-enum-told-4
+enum-told-4 c = search needs
 
 returns : tie.Need-returns
 unfolding turned
@@ -54,11 +51,11 @@ returns-3 c = c .lose .ensures ∙ sym (ap (turned _ _) (c .before .enum-told2 .
 
 returns-4 : tie.Need-returns-4
 unfolding turned
-returns-4 c = c .finish .ensures ∙ sym (ap (turned _ _) (after-turn2 c .turn2 .given .1))
+returns-4 c = c .finish .ensures ∙ sym (ap (turned _ _) (c .before .enum-told3 .given .1))
 
 returns-5 : tie.Need-returns-5
 unfolding turned
-returns-5 c = sym (ap (turned _ _) (c .enum-told3 .given .1))
+returns-5 c = sym (ap (turned _ _) (c .enum-told4 .given .1))
 
 pub turn-spec : {M : Type 1} → statement M
 turn-spec =
@@ -70,9 +67,9 @@ turn-spec =
     hold-requires
     enum-told-2
     lose-requires
-    enum-known-turn-2
-    finish-requires
     enum-told-3
+    finish-requires
+    enum-told-4
     returns
     returns-2
     returns-3
