@@ -1,7 +1,7 @@
 //! Calls of the run: lengths and words that no run file has, every total with
-//! adds around the ceiling, and every small run on one cell and on two. Every
-//! call is made of the proved run and of the second model, and all that they
-//! leave compared.
+//! adds around the ceiling, every small run on one cell and on two, and every
+//! beginning of a schedule. Every call is made of the proved run and of the
+//! second model, and all that they leave compared.
 
 use generated::files::case;
 use generated::random::Random;
@@ -422,35 +422,42 @@ fn spoil(call: &mut Call, random: &mut Random) {
     }
 }
 
+/// The call of a generated file, with up to two elements more lent for answers
+/// and log than there are operations, and anything in them.
+fn of_a_file(index: u64, random: &mut Random) -> Call {
+    let mut call = Call {
+        cells: vec![0; 4_096],
+        operations: vec![0; 64],
+        schedule: vec![0; 16_384],
+        answers: Vec::new(),
+        log: Vec::new(),
+    };
+    let file = case(5, index as usize).file;
+    let loaded = model::load(
+        &file,
+        &mut call.cells,
+        &mut call.operations,
+        &mut call.schedule,
+    );
+    call.cells.truncate(loaded.cells.max(1));
+    call.operations.truncate(loaded.operations);
+    call.schedule.truncate(loaded.entries);
+    let count = call.operations.len();
+    call.answers = (0..count + random.below(3))
+        .map(|_| random.next() as u32)
+        .collect();
+    call.log = (0..count + random.below(3))
+        .map(|_| random.byte())
+        .collect();
+    call
+}
+
 #[test]
 fn calls_at_random() {
     let mut refused = [0; 9];
     for index in 0..12_000 {
         let mut random = Random::new(5, index);
-        let mut call = Call {
-            cells: vec![0; 4_096],
-            operations: vec![0; 64],
-            schedule: vec![0; 16_384],
-            answers: Vec::new(),
-            log: Vec::new(),
-        };
-        let file = case(5, index as usize).file;
-        let loaded = model::load(
-            &file,
-            &mut call.cells,
-            &mut call.operations,
-            &mut call.schedule,
-        );
-        call.cells.truncate(loaded.cells.max(1));
-        call.operations.truncate(loaded.operations);
-        call.schedule.truncate(loaded.entries);
-        let count = call.operations.len();
-        call.answers = (0..count + random.below(3))
-            .map(|_| random.next() as u32)
-            .collect();
-        call.log = (0..count + random.below(3))
-            .map(|_| random.byte())
-            .collect();
+        let mut call = of_a_file(index, &mut random);
         for _ in 0..random.below(4) {
             spoil(&mut call, &mut random);
         }
@@ -458,4 +465,64 @@ fn calls_at_random() {
     }
     println!("calls by refusal, 0 to 8: {refused:?}");
     assert!(refused.iter().all(|&count| count > 0), "{refused:?}");
+}
+
+/// Stops a schedule after every entry: what stands in the second model's slices
+/// then, elements past the written ones too, is what the proved run of that
+/// beginning leaves. From one stop to the next at most one cell changes, and
+/// where an operation finished, its answer takes the place of a 0 and its number
+/// enters the log; all else stays. Gives the number of stops.
+fn stopped_after_every_entry(call: &Call) -> usize {
+    let mut model = call.clone();
+    let stops = model::stops(
+        &mut model.cells,
+        &call.operations,
+        &call.schedule,
+        &mut model.answers,
+        &mut model.log,
+    );
+    for (k, (outcome, cells, answers, log)) in stops.iter().enumerate() {
+        let mut beginning = call.clone();
+        beginning.schedule.truncate(k);
+        let (ended, left) = made_and_left(&beginning);
+        assert_eq!(&ended, outcome, "{beginning:?}");
+        assert_eq!(&left.cells, cells, "{beginning:?}");
+        assert_eq!(&left.answers, answers, "{beginning:?}");
+        assert_eq!(&left.log, log, "{beginning:?}");
+        if k == 0 {
+            continue;
+        }
+        let (before, stood, mut expected_answers, mut expected_log) = stops[k - 1].clone();
+        let differ = cells.iter().zip(&stood).filter(|(now, then)| now != then);
+        assert!(differ.count() <= 1, "{beginning:?}");
+        if ended.done > before.done {
+            let entry = call.schedule[k - 1];
+            let row = usize::from(entry);
+            assert_eq!(expected_answers[row], 0, "{beginning:?}");
+            assert_ne!(answers[row], 0, "{beginning:?}");
+            expected_answers[row] = answers[row];
+            expected_log[before.done] = entry;
+        }
+        assert_eq!(answers, &expected_answers, "{beginning:?}");
+        assert_eq!(log, &expected_log, "{beginning:?}");
+    }
+    stops.len()
+}
+
+/// "Show that after every entry the slice holds what a run ending there
+/// leaves."
+#[test]
+fn every_beginning_of_a_schedule() {
+    let mut stops = stopped_after_every_entry(&accepted());
+    for index in 0..4_000 {
+        let mut random = Random::new(19, index);
+        let mut call = match index % 2 {
+            0 => in_use(1 << random.below(6), &mut random),
+            _ => of_a_file(index, &mut random),
+        };
+        call.schedule.truncate(200);
+        stops += stopped_after_every_entry(&call);
+    }
+    println!("stops: {stops}");
+    assert!(stops > 50_000, "{stops} stops");
 }

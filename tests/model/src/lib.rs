@@ -18,5 +18,5 @@ pub use file::{load, Loaded};
 pub use list::list;
 pub use refuse::refusal;
 pub use report::report;
-pub use run::{run, Outcome};
+pub use run::{run, stops, Outcome};
 pub use word::{home, sum};

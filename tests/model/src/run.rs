@@ -120,3 +120,31 @@ pub fn run(
     }
     state.outcome()
 }
+
+/// A run stopped after every entry, and before the first: what it would return
+/// there, and the cells, the answers and the log that stand in the slices. A
+/// refused run has no stops.
+pub fn stops(
+    cells: &mut [u32],
+    operations: &[u64],
+    schedule: &[u8],
+    answers: &mut [u32],
+    log: &mut [u8],
+) -> Vec<(Outcome, Vec<u32>, Vec<u32>, Vec<u8>)> {
+    let mut stops = Vec::new();
+    if refusal(cells, operations, schedule, answers.len(), log.len()).is_none() {
+        let mut state = State::start(cells.len(), operations, answers);
+        for k in 0..=schedule.len() {
+            stops.push((
+                state.outcome(),
+                cells.to_vec(),
+                answers.to_vec(),
+                log.to_vec(),
+            ));
+            if let Some(&entry) = schedule.get(k) {
+                state.entry(entry, cells, answers, log);
+            }
+        }
+    }
+    stops
+}
