@@ -4,14 +4,14 @@
 -- Assumes nothing.
 use mathlib.Core.Path.{_≡_}
 use Prim.Native.Nat.{ℕ, _-_, _%_, min}
-use mathlib.Core.Bool.{Bool, true, false, cond}
+use mathlib.Core.Bool.{Bool, true, false, cond, not}
 use mathlib.Core.List.{List, []}
 use lib.Dec.{ltb}
 use lib.ListN.{length, getD, set, replicate}
 use Rattle.semantics.specs.Words.{Width, nothing}
 use Rattle.semantics.specs.Narrow.{cellWord, packedAnswer, narrowWidth}
 use Rattle.semantics.specs.Wide.{wideCellWord, widePackedAnswer, wideWidth}
-use Rattle.semantics.specs.Widths.{widthOf}
+use Rattle.semantics.specs.Widths.{widthOf, ofWidth}
 use Rattle.semantics.specs.Run.{over, refusalOf}
 use Rattle.semantics.specs.Lent.{lent}
 use Rattle.rules.specs.declared.effect.Operation.{Operation}
@@ -29,12 +29,10 @@ laidIn true words = record { narrow = []; wide = words }
 
 -- the words of one width among them, and the others
 abbrev pub wordsIn : Bool → Lent → List ℕ
-wordsIn false l = l .narrow
-wordsIn true l = l .wide
+wordsIn flagged l = ofWidth flagged (l .narrow) (l .wide)
 
 abbrev pub othersIn : Bool → Lent → List ℕ
-othersIn false l = l .wide
-othersIn true l = l .narrow
+othersIn flagged l = ofWidth (not flagged) (l .narrow) (l .wide)
 
 -- the values of a cell's word and of an operation's
 abbrev pub cellIn : Width → ℕ → Cell

@@ -1,18 +1,17 @@
 -- The lines of a text, written one after another, are the text.
 -- Assumes nothing.
-use mathlib.Core.Path.{_≡_, sym, ap₂, subst, _∙_}
+use mathlib.Core.Path.{_≡_, sym, subst}
 use Prim.Native.Nat.{ℕ, min, _≤_}
 use mathlib.Core.Bool.{Bool, true, false}
-use mathlib.Core.List.{List, [], _++_, append-nil}
+use mathlib.Core.List.{List, _++_}
 use native.Mathlib.Omega.{arith}
 use lib.ListN.{length, getD}
 use borrow.Author.Tests.{eq-eqb, ne-eqb}
 use Rattle.semantics.specs.declared.Outcome.{Outcome}
 use Rattle.semantics.specs.declared.Total.{Total}
 use Rattle.semantics.specs.Words.{Width}
-use Rattle.semantics.specs.Narrow.{narrowWidth}
-use Rattle.semantics.specs.Text.{text, decimal, textsBelow, mostText, Handed, handed}
-use Rattle.semantics.specs.Listing.{narrowText, lineEnd, refusalText, countsText, rowText, logText, cellText, runText, listing}
+use Rattle.semantics.specs.Text.{text, decimal, textsBelow, mostText}
+use Rattle.semantics.specs.Listing.{lineEnd, refusalText, countsText, rowText, logText, cellText, runText, listing}
 use Rattle.semantics.specs.Widths.{mostTextOf}
 use Rattle.text.specs.Writing.{Writing, written}
 use Rattle.text.proofs.Writing.{next}
@@ -37,18 +36,11 @@ module _ (w : Writing) where
     unfolding listing
     one-line other e = rw (ne-eqb (outcome .number) 0 other) e
 
--- a narrow run lends nothing wide
-pub narrow-alone : (outcome : Outcome) (operations answers log cells out : List ℕ) {h : Handed}
-    → handed (listing narrowWidth narrowText outcome operations (answers ++ []) log (cells ++ [])) out ≡ h
-    → handed (listing narrowWidth narrowText outcome operations answers log cells) out ≡ h
-narrow-alone outcome operations answers log cells out e =
-    ap₂ (λ (a c : List ℕ). handed (listing narrowWidth narrowText outcome operations a log c) out) (sym (append-nil answers)) (sym (append-nil cells)) ∙ e
-
 -- the width that a test chose: what is enough for it, and that it is not the other
 module _ {wide : Bool} where
-  pub wide-enough : wide ≡ true → mostTextOf wide ≤ 151552
+  pub wide-enough : wide ≡ true → mostTextOf wide ≤ 148228
   unfolding mostTextOf
-  wide-enough is = subst (λ (b : Bool). mostTextOf b ≤ 151552) (sym is) (omega arith)
+  wide-enough is = subst (λ (b : Bool). mostTextOf b ≤ 148228) (sym is) (omega arith)
 
   pub narrow-enough : wide ≡ false → mostTextOf wide ≤ mostText
   unfolding mostTextOf

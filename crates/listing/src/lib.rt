@@ -13,8 +13,7 @@ ghost use lib.ListN.{length, getD};
 ghost use Rattle.semantics.specs.Text.{text, decimal, textsBelow, handed};
 ghost use Rattle.semantics.specs.Refusals.{mostOperations};
 ghost use Rattle.semantics.specs.RunFile.{mostCells};
-ghost use Rattle.semantics.specs.Narrow.{narrowWidth};
-ghost use Rattle.semantics.specs.Listing.{narrowText, logText, listing};
+ghost use Rattle.semantics.specs.Listing.{logText, listing};
 ghost use Rattle.semantics.specs.Widths.{widthOf, textOf, mostTextOf};
 ghost use Rattle.text.specs.Writing.{lastPosition, written};
 use lines::cells::put_cells;
@@ -156,9 +155,9 @@ fn has_room(
     length <= room
 }
 
-// Writes the text of what a run returned, with its operations and what it left: whole, over the
-// front of the slice, or not at all if the slice is too short.
-fn list_lent(
+// Writes the text of what a run of either width returned, with its operations and what it left: whole,
+// over the front of the slice, or not at all if the slice is too short.
+pub fn list(
     outcome: Outcome,
     operations: &[u64],
     answers32: &[u32],
@@ -204,31 +203,4 @@ fn list_lent(
         place: 0,
         length: 0,
     }
-}
-
-// Writes the text of what a narrow run returned, with its operations and what it left: whole, over the
-// front of the slice, or not at all if the slice is too short. Nothing wide is lent.
-pub fn list(
-    outcome: Outcome,
-    operations: &[u64],
-    answers: &[u32],
-    log: &[u8],
-    cells: &[u32],
-    out: &mut [u8],
-) -> Written
-    ensures { λ r. ⌜ handed (listing narrowWidth narrowText outcome (now (operations .entry)) (now (answers .entry)) (now (log .entry)) (now (cells .entry))) (now (out .entry))
-        ≡ record { written = r; out = now (out .exit) } ⌝ }
-{
-    let none = [0u64; 0];
-    list_lent(
-        outcome,
-        operations,
-        answers,
-        &none,
-        log,
-        cells,
-        &none,
-        false,
-        out,
-    )
 }

@@ -1,10 +1,13 @@
-// What stands at an offset of a run file (document 01, "The run file"): a byte, a number of two bytes,
-// the mark of a record, or a total; and the order that the marks come in. Files of two widths differ in
-// the letters of the table's mark and in the bytes of a total: flagged says which are read. Every
-// function takes every offset.
+// What stands at an offset of a run file (document 01, "The run file"): a byte, a number of two bytes or
+// of four, the mark of a record, or a total; and the order that the marks come in. Files of two widths
+// differ in the letters of the table's mark and in the bytes of a total: flagged says which are read.
+// Every function takes every offset.
 ghost use mathlib.Core.Path.{_≡_};
 ghost use Prim.Native.Nat.{_+_, _*_, _<_};
 ghost use Rattle.semantics.specs.RunFile.{layoutOf, byteAt, pairAt, hasMark, markAt, mayFollow};
+ghost use Rattle.record.specs.Turned.{turned};
+use packing::low_8;
+use packing::narrow::cell_word;
 use semantics::Mark;
 
 // The byte at an offset, and the one after it; 0 past the end.
@@ -40,17 +43,49 @@ pub fn pair_at(file: &[u8], at: usize) -> u16
     pair(byte_at(file, at), byte_after(file, at))
 }
 
+// The same with the low byte first, as bytes lie in a word of the machine that this is compiled for: it
+// is read by one load. Both are said to be bytes.
+fn low_pair_at(file: &[u8], at: usize) -> u16
+    ensures { λ r. ⌜ (r ≡ byteAt (now (file .entry)) (at + 1) * 256 + byteAt (now (file .entry)) at) × (byteAt (now (file .entry)) (at + 1) < 256) × (byteAt (now (file .entry)) at < 256) ⌝ }
+{
+    pair(byte_after(file, at), byte_at(file, at))
+}
+
+// The number of the first four bytes, the high byte first. They are read low byte first and turned
+// round: the compiler makes one load and one swap of that whatever is done with the number, where the
+// bytes put together high byte first would come apart again in a word that has more than them.
+fn low_four(file: &[u8]) -> u32
+    ensures { λ r. ⌜ turned r ≡ pairAt (now (file .entry)) 0 * 65536 + pairAt (now (file .entry)) 2 ⌝ }
+{
+    cell_word(low_pair_at(file, 2), low_pair_at(file, 0))
+}
+
+fn turned(w: u32) -> u32
+    ensures { λ r. ⌜ r ≡ turned w ⌝ }
+{
+    let w = w as u64;
+    cell_word(
+        pair(low_8(w), low_8(w >> 8)),
+        pair(low_8(w >> 16), low_8(w >> 24)),
+    )
+}
+
+pub fn first_four(file: &[u8]) -> u32
+    ensures { λ r. ⌜ r ≡ pairAt (now (file .entry)) 0 * 65536 + pairAt (now (file .entry)) 2 ⌝ }
+{
+    turned(low_four(file))
+}
+
 // Whether a mark of two letters stands at an offset. Both letters are compared as one number, so that
-// the four tests of mark_at become one choice; the second letter is its high byte, as two bytes lie in
-// a word of the machine that this is compiled for.
+// the four tests of mark_at become one choice.
 fn has_mark(file: &[u8], at: usize, mark: &[u8; 2]) -> bool
     ensures { λ r. ⌜ r ≡ hasMark (now (file .entry)) at (now (mark .entry)) ⌝ }
 {
-    pair(byte_after(file, at), byte_at(file, at)) == pair(mark[1], mark[0])
+    low_pair_at(file, at) == pair(mark[1], mark[0])
 }
 
 // The table's mark is the one that tells the widths apart.
-fn has_table(file: &[u8], at: usize, flagged: bool) -> bool
+pub fn has_table(file: &[u8], at: usize, flagged: bool) -> bool
     ensures { λ r. ⌜ r ≡ hasMark (now (file .entry)) at (layoutOf flagged .tableLetters) ⌝ }
 {
     if flagged {

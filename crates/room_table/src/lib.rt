@@ -1,21 +1,18 @@
-// What is offered under names of C. room_home and room_sum are the two functions that the load module
-// calls, with numbers only (document 01, "The run file"); include/room_table.h declares them. The
-// reader, the run and the whole report are for the tests and the bench, which call them from Rust: a slice
-// is a pointer and a length, and what is returned is a struct of C's layout. Of these three nothing is
-// decided here: each is the function that it calls, with the equation that function promises.
+// What is offered of the narrow table under names of C. room_home and room_sum are the two functions that
+// the load module calls, with numbers only (document 01, "The run file"); include/room_table.h declares
+// them. The reader and the run are for the tests and the bench, which call them from Rust: a slice is a
+// pointer and a length, and what is returned is a struct of C's layout. Of these two nothing is decided here:
+// each is the function that it calls, with the equation that function promises.
 ghost use mathlib.Core.Path.{_≡_};
-ghost use Rattle.semantics.specs.Response.{response};
 ghost use Rattle.semantics.specs.Narrow.{narrowWidth, roomHome, roomSum};
 ghost use Rattle.semantics.specs.Run.{runResult};
 ghost use Rattle.semantics.specs.RunFile.{narrowFile, reading};
-ghost use Rattle.semantics.specs.Text.{handed};
 use hash::home;
 use hash::size_allowed;
 use packing::narrow::narrow_total;
 use rules::effect::sum_of;
 use semantics::Loaded;
 use semantics::Outcome;
-use semantics::Written;
 
 // The home of a key in c cells, or 65,535 where c or the key is not allowed.
 // Both are judged first, so the key is 1 to 65,534 and has sixteen bits.
@@ -74,12 +71,4 @@ pub extern "C" fn room_load(
         ≡ record { loaded = r; cells = now (cells .exit); operations = now (operations .exit); schedule = now (schedule .exit) } ⌝ }
 {
     runfile::load(file, cells, operations, schedule)
-}
-
-// File in, text out.
-#[no_mangle]
-pub extern "C" fn room_report(file: &[u8], out: &mut [u8]) -> Written
-    ensures { λ r. ⌜ handed (response (now (file .entry))) (now (out .entry)) ≡ record { written = r; out = now (out .exit) } ⌝ }
-{
-    report::report(file, out)
 }

@@ -1,10 +1,12 @@
-// Document 01, "A run in full": reads a run file on standard input and writes the text of its run.
+// Document 01, "A run in full": reads a run file of either width on standard input and writes the text
+// of its run.
 ghost use mathlib.Core.Path.{_≡_};
+ghost use mathlib.Core.Bool.{true};
 ghost use Prim.Native.Nat.{_<_, _≤_};
 ghost use lib.ListN.{length};
 ghost use Rattle.io.specs.Counts.{Counts};
 ghost use Rattle.semantics.specs.Run.{over};
-ghost use Rattle.semantics.specs.Text.{mostText};
+ghost use Rattle.semantics.specs.Widths.{mostTextOf};
 ghost use Rattle.semantics.specs.RunFile.{longestFile};
 ghost use Rattle.semantics.specs.Response.{response};
 use io::read_full;
@@ -13,7 +15,7 @@ use libc::STDIN_FILENO;
 use libc::STDOUT_FILENO;
 use report::report;
 use semantics::MOST_BYTES;
-use semantics::MOST_TEXT;
+use semantics::MOST_WIDE_TEXT;
 
 // Reads standard input and says how many bytes came. It asks for room for one byte more than the
 // longest file has, so that a longer one is seen and refused. A short read from a pipe is not taken
@@ -26,9 +28,10 @@ fn read_file(file: &mut [u8]) -> usize
 }
 
 // Writes the response to a file over the front of the text and says how long it is. It asks for as
-// many bytes as any response may have, so that none is refused for want of room.
+// many bytes as any response may have, that to a wide file the most, so that none is refused for want of
+// room.
 fn respond(file: &[u8], text: &mut [u8]) -> usize
-    requires { ⌜ mostText ≤ length (now text) ⌝ }
+    requires { ⌜ mostTextOf true ≤ length (now text) ⌝ }
     ensures whole { λ r. ⌜ (r ≡ length (response (now (file .entry)))) × (now (text .exit) ≡ over (response (now (file .entry))) (now (text .entry))) ⌝ }
     ensures counted { λ r. ⌜ Counts r (now (text .exit)) ⌝ }
 {
@@ -39,7 +42,7 @@ fn respond(file: &[u8], text: &mut [u8]) -> usize
 fn main() {
     let mut file = [0u8; MOST_BYTES + 1];
     let n = read_file(&mut file);
-    let mut text = [0u8; MOST_TEXT];
+    let mut text = [0u8; MOST_WIDE_TEXT];
     let length = respond(&file[..n], &mut text);
     write_all(STDOUT_FILENO, &text[..length]);
 }

@@ -4,10 +4,13 @@
 // answers are two slices each, of narrow words and of wide ones, of which one is empty. What asks something
 // of its caller is private here.
 ghost use mathlib.Core.Path.{_≡_};
+ghost use mathlib.Core.Bool.{not};
+ghost use mathlib.Core.List.{[]};
 ghost use Prim.Native.Nat.{_<_};
 ghost use Rattle.semantics.specs.Sets.{isIn};
 ghost use Rattle.semantics.specs.Narrow.{narrowWidth};
-ghost use Rattle.semantics.specs.Widths.{widthOf};
+ghost use Rattle.semantics.specs.Wide.{wideWidth};
+ghost use Rattle.semantics.specs.Widths.{widthOf, ofWidth};
 ghost use Rattle.semantics.specs.Run.{runResult};
 ghost use Rattle.semantics.specs.Demands.{Demands};
 ghost use Rattle.entry.specs.Lent.{wordsIn, Ready};
@@ -96,6 +99,57 @@ fn entries(
     }
 }
 
+// A whole run of either width: the call is judged first, and one that is turned away alters nothing.
+fn run_either(
+    flagged: bool,
+    narrow: &mut [u32],
+    wide: &mut [u64],
+    operations: &[u64],
+    schedule: &[u8],
+    answers32: &mut [u32],
+    answers64: &mut [u64],
+    log: &mut [u8],
+) -> Outcome
+    requires { ⌜ (ofWidth (not flagged) (now narrow) (now wide) ≡ []) × (ofWidth (not flagged) (now answers32) (now answers64) ≡ []) ⌝ }
+    ensures { λ r. ⌜ runResult (widthOf flagged) (ofWidth flagged (now (narrow .entry)) (now (wide .entry))) (now (operations .entry))
+        (now (schedule .entry)) (ofWidth flagged (now (answers32 .entry)) (now (answers64 .entry))) (now (log .entry))
+        ≡ record {
+          outcome = r;
+          cells = ofWidth flagged (now (narrow .exit)) (now (wide .exit));
+          answers = ofWidth flagged (now (answers32 .exit)) (now (answers64 .exit));
+          log = now (log .exit);
+        } ⌝ }
+{
+    let refusal = validate(
+        flagged,
+        narrow,
+        wide,
+        operations,
+        schedule,
+        answers32.len() + answers64.len(),
+        log.len(),
+    );
+    if refusal.number == 0 {
+        return entries(
+            flagged,
+            narrow,
+            wide,
+            operations,
+            schedule,
+            answers32,
+            answers64,
+            log,
+        );
+    }
+    Outcome {
+        number: refusal.number,
+        place: refusal.place,
+        done: 0,
+        lost: 0,
+        idle: 0,
+    }
+}
+
 // Runs a schedule: the operations that its entries name take one atomic step each, on the cells.
 //
 // The call is judged first, and one that is turned away alters nothing. Otherwise the cells, an
@@ -112,26 +166,42 @@ pub fn run(
     ensures { λ r. ⌜ Demands narrowWidth (now (cells .entry)) (now (operations .entry)) (now (schedule .entry)) (now (answers .entry)) (now (log .entry))
         (record { outcome = r; cells = now (cells .exit); answers = now (answers .exit); log = now (log .exit) }) ⌝ }
 {
-    let refusal = validate(cells, operations, schedule, answers.len(), log.len());
-    if refusal.number == 0 {
-        let mut no_cells = [0u64; 0];
-        let mut no_answers = [0u64; 0];
-        return entries(
-            false,
-            cells,
-            &mut no_cells,
-            operations,
-            schedule,
-            answers,
-            &mut no_answers,
-            log,
-        );
-    }
-    Outcome {
-        number: refusal.number,
-        place: refusal.place,
-        done: 0,
-        lost: 0,
-        idle: 0,
-    }
+    let mut no_cells = [0u64; 0];
+    let mut no_answers = [0u64; 0];
+    run_either(
+        false,
+        cells,
+        &mut no_cells,
+        operations,
+        schedule,
+        answers,
+        &mut no_answers,
+        log,
+    )
+}
+
+// The same of a wide table, whose totals have 32 bits and a flag (document 02, "A4"): the same page at
+// the other width.
+pub fn run_wide(
+    cells: &mut [u64],
+    operations: &[u64],
+    schedule: &[u8],
+    answers: &mut [u64],
+    log: &mut [u8],
+) -> Outcome
+    ensures { λ r. ⌜ Demands wideWidth (now (cells .entry)) (now (operations .entry)) (now (schedule .entry)) (now (answers .entry)) (now (log .entry))
+        (record { outcome = r; cells = now (cells .exit); answers = now (answers .exit); log = now (log .exit) }) ⌝ }
+{
+    let mut no_cells = [0u32; 0];
+    let mut no_answers = [0u32; 0];
+    run_either(
+        true,
+        &mut no_cells,
+        cells,
+        operations,
+        schedule,
+        &mut no_answers,
+        answers,
+        log,
+    )
 }

@@ -12,11 +12,12 @@ use Rattle.semantics.specs.declared.Mark.the-variants.{Table, Cell, Operation, 
 use Rattle.semantics.specs.declared.Position.{Position}
 use Rattle.semantics.specs.Run.{over}
 use Rattle.semantics.specs.RunFile.{Layout, Contents, byteAt, pairAt, markAt, cellWordAt, operationWordAt}
-use Rattle.runfile.specs.Stored.{lentCells, stored}
+use Rattle.semantics.specs.Widths.{ofWidth}
+use Rattle.runfile.specs.Stored.{stored}
 
 -- of two slices, the one of the width is as long as it was, and the other was not altered
-pub both-long : (flagged : Bool) (narrow wide narrow′ wide′ : List ℕ) → length (lentCells flagged narrow′ wide′) ≡ length (lentCells flagged narrow wide)
-    → lentCells (not flagged) narrow′ wide′ ≡ lentCells (not flagged) narrow wide → (length narrow′ ≡ length narrow) × (length wide′ ≡ length wide)
+pub both-long : (flagged : Bool) (narrow wide narrow′ wide′ : List ℕ) → length (ofWidth flagged narrow′ wide′) ≡ length (ofWidth flagged narrow wide)
+    → ofWidth (not flagged) narrow′ wide′ ≡ ofWidth (not flagged) narrow wide → (length narrow′ ≡ length narrow) × (length wide′ ≡ length wide)
 both-long true narrow wide narrow′ wide′ long kept = (ap length kept, long)
 both-long false narrow wide narrow′ wide′ long kept = (long, ap length kept)
 

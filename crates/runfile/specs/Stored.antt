@@ -3,7 +3,7 @@
 -- Assumes nothing.
 use mathlib.Core.Path.{_≡_}
 use Prim.Native.Nat.{ℕ, _+_, _^_, _≤_}
-use mathlib.Core.Bool.{Bool, true, false, not}
+use mathlib.Core.Bool.{Bool, not}
 use mathlib.Core.List.{List, _++_}
 use lib.ListN.{length, set, take, drop, replicate}
 use Rattle.semantics.specs.declared.Mark.{Mark}
@@ -12,17 +12,13 @@ use Rattle.semantics.specs.declared.Position.{Position}
 use Rattle.semantics.specs.Refusals.{mostOperations, mostEntries}
 use Rattle.semantics.specs.Records.{faultAt}
 use Rattle.semantics.specs.Run.{over}
+use Rattle.semantics.specs.Widths.{ofWidth}
 use Rattle.semantics.specs.RunFile.{Layout, Contents, byteAt, pairAt, cellWordAt, operationWordAt, entriesAt, markAt, mostCells, nextOf, runFile}
 
--- The cells are lent as two slices, one for each width, of which one is empty: those of the width that is read.
-abbrev pub lentCells : Bool → List ℕ → List ℕ → List ℕ
-lentCells true narrow wide = wide
-lentCells false narrow wide = narrow
-
--- the slice of that width has come to hold some cells, and the other was not altered
+-- The cells are lent as two slices, one for each width: that of the width that is read has come to hold some cells, and the other was not altered.
 pub record Rewritten (flagged : Bool) (narrow wide narrow′ wide′ cells : List ℕ) : Type 0 where
-  pub is : lentCells flagged narrow′ wide′ ≡ cells
-  pub other : lentCells (not flagged) narrow′ wide′ ≡ lentCells (not flagged) narrow wide
+  pub is : ofWidth flagged narrow′ wide′ ≡ cells
+  pub other : ofWidth (not flagged) narrow′ wide′ ≡ ofWidth (not flagged) narrow wide
 
 -- the slices' contents after the record at p: an operation and entries stand behind those that came before
 unfoldable pub stored : Layout → List ℕ → Position → Mark → Contents → Contents

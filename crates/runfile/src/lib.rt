@@ -1,21 +1,22 @@
 // The reader of run files (document 01, "The run file" and "Where a call is turned away"). A file is
 // judged whole before anything is written, so that a fault in its last record leaves every slice as
 // it was; the second pass judges nothing, and both go from record to record by the same function. The
-// cells are lent as two slices, of which one is empty: what is below load serves files of either
-// width, and flagged says which, as it does in the scan.
+// cells are lent as two slices, of narrow words and of wide ones: one reader serves files of either
+// width, and flagged says which, as it does in the scan. Of the slice of the other width nothing counts.
 ghost use mathlib.Core.Path.{_≡_};
 ghost use mathlib.Core.Bool.{not};
-ghost use Prim.Native.Nat.{_+_, _<_, _≤_};
+ghost use Prim.Native.Nat.{_+_, _*_, _<_, _≤_};
 ghost use lib.ListN.{length, set, replicate};
 ghost use Rattle.io.specs.Counts.{Counts};
 ghost use Rattle.semantics.specs.Run.{over};
-ghost use Rattle.semantics.specs.RunFile.{layoutOf, narrowFile, wideFile, flaggedAt, markAt, cellWordAt, operationWordAt, readerRefusal, contents, acceptedReading, reading};
-ghost use Rattle.runfile.specs.Stored.{lentCells, Rewritten, stored, Storable};
-use packing::narrow::cell_word;
+ghost use Rattle.semantics.specs.RunFile.{layoutOf, narrowFile, wideFile, pairAt, flaggedAt, markAt, cellWordAt, operationWordAt, readerRefusal, contents, acceptedReading, reading};
+ghost use Rattle.semantics.specs.Widths.{ofWidth};
+ghost use Rattle.runfile.specs.Stored.{Rewritten, stored, Storable};
 use packing::narrow::operation_word;
 use packing::wide::wide_cell_word;
 use packing::wide::wide_operation_word;
 use record::fields::byte_at;
+use record::fields::first_four;
 use record::fields::pair_at;
 use scan::file_refusal;
 use scan::mark_of;
@@ -32,33 +33,42 @@ use semantics::Total;
 
 pub mod scan; // scan.rt: the records of a file, judged one by one
 
-// The words that a CL and an OP record hold, in either width: what is read is lent at its known size,
-// so that no offset is tested again. A wide total is a flag, then four bytes.
-fn total_of(bytes: &[u8]) -> Total
-    ensures { λ r. ⌜ r ≡ flaggedAt (now (bytes .entry)) 0 ⌝ }
+// A number of four bytes, and a wide total: a flag, then four bytes. What is read is lent at its known
+// size, so that no offset is tested again.
+fn four_at(file: &[u8], at: usize) -> u32
+    requires { ⌜ at + 4 ≤ length (now file) ⌝ }
+    ensures { λ r. ⌜ r ≡ pairAt (now (file .entry)) at * 65536 + pairAt (now (file .entry)) (at + 2) ⌝ }
 {
-    let amount = cell_word(pair_at(bytes, 1), pair_at(bytes, 3));
-    let saturated = byte_at(bytes, 0) == 1;
+    first_four(&file[at..at + 4])
+}
+
+fn total_at(file: &[u8], at: usize) -> Total
+    requires { ⌜ at + 5 ≤ length (now file) ⌝ }
+    ensures { λ r. ⌜ r ≡ flaggedAt (now (file .entry)) at ⌝ }
+{
+    let amount = four_at(file, at + 1);
+    let saturated = file[at] == 1;
     Total {
         amount: amount,
         saturated: saturated,
     }
 }
 
+// The words that a CL and an OP record hold, in either width. The key and the total of a narrow cell are
+// one number of four bytes.
 fn cell_at(file: &[u8], at: usize) -> u32
     requires { ⌜ at + 8 ≤ length (now file) ⌝ }
     ensures { λ r. ⌜ r ≡ cellWordAt narrowFile (now (file .entry)) at ⌝ }
 {
-    let record = &file[at..at + 8];
-    cell_word(pair_at(record, 4), pair_at(record, 6))
+    four_at(file, at + 4)
 }
 
 fn wide_cell_at(file: &[u8], at: usize) -> u64
     requires { ⌜ at + 11 ≤ length (now file) ⌝ }
     ensures { λ r. ⌜ r ≡ cellWordAt wideFile (now (file .entry)) at ⌝ }
 {
-    let record = &file[at..at + 11];
-    wide_cell_word(pair_at(record, 4), total_of(&record[6..11]))
+    let record = &file[at..at + 6];
+    wide_cell_word(pair_at(record, 4), total_at(file, at + 6))
 }
 
 fn narrow_operation_at(file: &[u8], at: usize) -> u64
@@ -73,11 +83,11 @@ fn wide_operation_at(file: &[u8], at: usize) -> u64
     requires { ⌜ at + 10 ≤ length (now file) ⌝ }
     ensures { λ r. ⌜ r ≡ operationWordAt wideFile (now (file .entry)) at ⌝ }
 {
-    let record = &file[at..at + 10];
+    let record = &file[at..at + 5];
     wide_operation_word(
         byte_at(record, 2),
         pair_at(record, 3),
-        total_of(&record[5..10]),
+        total_at(file, at + 5),
     )
 }
 
@@ -94,8 +104,8 @@ fn operation_at(file: &[u8], at: usize, flagged: bool) -> u64
 // Of the two slices that the cells are lent as, the one of the width that is read: its first cells
 // emptied, or one cell stored. An empty cell's word is 0 in either width.
 fn clear_cells(narrow: &mut [u32], wide: &mut [u64], flagged: bool, size: usize)
-    requires { ⌜ size ≤ length (lentCells flagged (now narrow) (now wide)) ⌝ }
-    ensures { λ _. ⌜ Rewritten flagged (now (narrow .entry)) (now (wide .entry)) (now (narrow .exit)) (now (wide .exit)) (over (replicate size 0) (lentCells flagged (now (narrow .entry)) (now (wide .entry)))) ⌝ }
+    requires { ⌜ size ≤ length (ofWidth flagged (now narrow) (now wide)) ⌝ }
+    ensures { λ _. ⌜ Rewritten flagged (now (narrow .entry)) (now (wide .entry)) (now (narrow .exit)) (now (wide .exit)) (over (replicate size 0) (ofWidth flagged (now (narrow .entry)) (now (wide .entry)))) ⌝ }
 {
     let mut i = 0;
     while i < size {
@@ -116,8 +126,8 @@ fn put_cell(
     flagged: bool,
     cell: usize,
 )
-    requires { ⌜ (at + (layoutOf flagged .totalSize + 6) ≤ length (now file)) × (cell < length (lentCells flagged (now narrow) (now wide))) ⌝ }
-    ensures { λ _. ⌜ Rewritten flagged (now (narrow .entry)) (now (wide .entry)) (now (narrow .exit)) (now (wide .exit)) (set (lentCells flagged (now (narrow .entry)) (now (wide .entry))) cell (cellWordAt (layoutOf flagged) (now (file .entry)) at)) ⌝ }
+    requires { ⌜ (at + (layoutOf flagged .totalSize + 6) ≤ length (now file)) × (cell < length (ofWidth flagged (now narrow) (now wide))) ⌝ }
+    ensures { λ _. ⌜ Rewritten flagged (now (narrow .entry)) (now (wide .entry)) (now (narrow .exit)) (now (wide .exit)) (set (ofWidth flagged (now (narrow .entry)) (now (wide .entry))) cell (cellWordAt (layoutOf flagged) (now (file .entry)) at)) ⌝ }
 {
     if flagged {
         wide[cell] = wide_cell_at(file, at);
@@ -179,10 +189,10 @@ fn store(
     operations: &mut [u64],
     schedule: &mut [u8],
 )
-    requires { ⌜ Storable (layoutOf flagged) (now file) mark position next (lentCells flagged (now narrow) (now wide)) (now operations) (now schedule) ⌝ }
-    ensures { λ _. ⌜ stored (layoutOf flagged) (now (file .entry)) position (markAt (layoutOf flagged) (now (file .entry)) (position .at)) (record { cells = lentCells flagged (now (narrow .entry)) (now (wide .entry)); operations = now (operations .entry); schedule = now (schedule .entry) })
-        ≡ record { cells = lentCells flagged (now (narrow .exit)) (now (wide .exit)); operations = now (operations .exit); schedule = now (schedule .exit) } ⌝ }
-    ensures { λ _. ⌜ lentCells (not flagged) (now (narrow .exit)) (now (wide .exit)) ≡ lentCells (not flagged) (now (narrow .entry)) (now (wide .entry)) ⌝ }
+    requires { ⌜ Storable (layoutOf flagged) (now file) mark position next (ofWidth flagged (now narrow) (now wide)) (now operations) (now schedule) ⌝ }
+    ensures { λ _. ⌜ stored (layoutOf flagged) (now (file .entry)) position (markAt (layoutOf flagged) (now (file .entry)) (position .at)) (record { cells = ofWidth flagged (now (narrow .entry)) (now (wide .entry)); operations = now (operations .entry); schedule = now (schedule .entry) })
+        ≡ record { cells = ofWidth flagged (now (narrow .exit)) (now (wide .exit)); operations = now (operations .exit); schedule = now (schedule .exit) } ⌝ }
+    ensures { λ _. ⌜ ofWidth (not flagged) (now (narrow .exit)) (now (wide .exit)) ≡ ofWidth (not flagged) (now (narrow .entry)) (now (wide .entry)) ⌝ }
 {
     let at = position.at;
     match mark {
@@ -216,10 +226,11 @@ fn fill(
     operations: &mut [u64],
     schedule: &mut [u8],
 ) -> Loaded
-    requires { ⌜ readerRefusal (layoutOf flagged) (now file) (length (lentCells flagged (now narrow) (now wide))) (length (now operations)) (length (now schedule)) .number ≡ 0 ⌝ }
-    ensures { λ r. ⌜ acceptedReading (contents (layoutOf flagged) (now (file .entry))) (lentCells flagged (now (narrow .entry)) (now (wide .entry))) (now (operations .entry)) (now (schedule .entry))
-        ≡ record { loaded = r; cells = lentCells flagged (now (narrow .exit)) (now (wide .exit)); operations = now (operations .exit); schedule = now (schedule .exit) } ⌝ }
-    ensures { λ r. ⌜ Counts (r .cells) (lentCells flagged (now (narrow .exit)) (now (wide .exit))) × Counts (r .operations) (now (operations .exit)) × Counts (r .entries) (now (schedule .exit)) ⌝ }
+    requires { ⌜ readerRefusal (layoutOf flagged) (now file) (length (ofWidth flagged (now narrow) (now wide))) (length (now operations)) (length (now schedule)) .number ≡ 0 ⌝ }
+    ensures { λ r. ⌜ acceptedReading (contents (layoutOf flagged) (now (file .entry))) (ofWidth flagged (now (narrow .entry)) (now (wide .entry))) (now (operations .entry)) (now (schedule .entry))
+        ≡ record { loaded = r; cells = ofWidth flagged (now (narrow .exit)) (now (wide .exit)); operations = now (operations .exit); schedule = now (schedule .exit) } ⌝ }
+    ensures { λ _. ⌜ ofWidth (not flagged) (now (narrow .exit)) (now (wide .exit)) ≡ ofWidth (not flagged) (now (narrow .entry)) (now (wide .entry)) ⌝ }
+    ensures { λ r. ⌜ Counts (r .cells) (ofWidth flagged (now (narrow .exit)) (now (wide .exit))) × Counts (r .operations) (now (operations .exit)) × Counts (r .entries) (now (schedule .exit)) ⌝ }
 {
     let mut position = start();
     loop {
@@ -249,18 +260,26 @@ fn fill(
     }
 }
 
-// Reads a run file into lent slices for at least 4,096 cells, 64 operations and 16,384 entries, and
-// says how many of each it wrote: what the slices hold past those stays. A file that is turned away
-// alters nothing. Checks 4 to 8 are the run's.
-pub fn load(file: &[u8], cells: &mut [u32], operations: &mut [u64], schedule: &mut [u8]) -> Loaded
-    ensures result { λ r. ⌜ reading narrowFile (now (file .entry)) (now (cells .entry)) (now (operations .entry)) (now (schedule .entry))
-        ≡ record { loaded = r; cells = now (cells .exit); operations = now (operations .exit); schedule = now (schedule .exit) } ⌝ }
-    ensures counted { λ r. ⌜ Counts (r .cells) (now (cells .exit)) × Counts (r .operations) (now (operations .exit)) × Counts (r .entries) (now (schedule .exit)) ⌝ }
+// Reads a run file of either width into lent slices for at least 4,096 cells, 64 operations and 16,384
+// entries, and says how many of each it wrote: what the slices hold past those stays. A file that is
+// turned away alters nothing. Checks 4 to 8 are the run's.
+pub fn load_either(
+    file: &[u8],
+    flagged: bool,
+    narrow: &mut [u32],
+    wide: &mut [u64],
+    operations: &mut [u64],
+    schedule: &mut [u8],
+) -> Loaded
+    ensures result { λ r. ⌜ reading (layoutOf flagged) (now (file .entry)) (ofWidth flagged (now (narrow .entry)) (now (wide .entry))) (now (operations .entry)) (now (schedule .entry))
+        ≡ record { loaded = r; cells = ofWidth flagged (now (narrow .exit)) (now (wide .exit)); operations = now (operations .exit); schedule = now (schedule .exit) } ⌝ }
+    ensures other { λ _. ⌜ ofWidth (not flagged) (now (narrow .exit)) (now (wide .exit)) ≡ ofWidth (not flagged) (now (narrow .entry)) (now (wide .entry)) ⌝ }
+    ensures counted { λ r. ⌜ Counts (r .cells) (ofWidth flagged (now (narrow .exit)) (now (wide .exit))) × Counts (r .operations) (now (operations .exit)) × Counts (r .entries) (now (schedule .exit)) ⌝ }
 {
-    let refusal = refusal_of(file, false, cells.len(), operations.len(), schedule.len());
+    let cells = if flagged { wide.len() } else { narrow.len() };
+    let refusal = refusal_of(file, flagged, cells, operations.len(), schedule.len());
     if refusal.number == 0 {
-        let mut wide = [0u64; 0];
-        return fill(file, false, cells, &mut wide, operations, schedule);
+        return fill(file, flagged, narrow, wide, operations, schedule);
     }
     Loaded {
         number: refusal.number,
@@ -269,4 +288,28 @@ pub fn load(file: &[u8], cells: &mut [u32], operations: &mut [u64], schedule: &m
         operations: 0,
         entries: 0,
     }
+}
+
+// The reader of narrow files, and that of wide ones: each is lent a slice of its width alone.
+pub fn load(file: &[u8], cells: &mut [u32], operations: &mut [u64], schedule: &mut [u8]) -> Loaded
+    ensures result { λ r. ⌜ reading narrowFile (now (file .entry)) (now (cells .entry)) (now (operations .entry)) (now (schedule .entry))
+        ≡ record { loaded = r; cells = now (cells .exit); operations = now (operations .exit); schedule = now (schedule .exit) } ⌝ }
+    ensures counted { λ r. ⌜ Counts (r .cells) (now (cells .exit)) × Counts (r .operations) (now (operations .exit)) × Counts (r .entries) (now (schedule .exit)) ⌝ }
+{
+    let mut wide = [0u64; 0];
+    load_either(file, false, cells, &mut wide, operations, schedule)
+}
+
+pub fn load_wide(
+    file: &[u8],
+    cells: &mut [u64],
+    operations: &mut [u64],
+    schedule: &mut [u8],
+) -> Loaded
+    ensures result { λ r. ⌜ reading wideFile (now (file .entry)) (now (cells .entry)) (now (operations .entry)) (now (schedule .entry))
+        ≡ record { loaded = r; cells = now (cells .exit); operations = now (operations .exit); schedule = now (schedule .exit) } ⌝ }
+    ensures counted { λ r. ⌜ Counts (r .cells) (now (cells .exit)) × Counts (r .operations) (now (operations .exit)) × Counts (r .entries) (now (schedule .exit)) ⌝ }
+{
+    let mut narrow = [0u32; 0];
+    load_either(file, true, &mut narrow, cells, operations, schedule)
 }

@@ -1,4 +1,5 @@
--- A response is at most 98,304 bytes, whatever the file: so a program that writes one needs no larger buffer.
+-- A response is at most 98,304 bytes to a narrow file and 148,228 to a wide one, whatever the file: so a program that writes one needs no larger
+-- buffer.
 -- Assumes nothing.
 use mathlib.Core.Path.{_≡_, sym, subst, _∙_}
 use Prim.Native.Nat.{ℕ, _≤_}
@@ -14,19 +15,18 @@ use Rattle.semantics.specs.Cells.{empty}
 use Rattle.semantics.specs.Step.{Row, Machine, answered, doneCount}
 use Rattle.semantics.specs.Refusals.{Call, callOf, mostOperations, mostEntries}
 use Rattle.semantics.specs.Run.{Result, machine, acceptedResult, outcomeOf}
-use Rattle.semantics.specs.RunFile.{Contents, narrowFile, contents, readerRefusal, mostCells}
+use Rattle.semantics.specs.RunFile.{Contents, layoutOf, contents, readerRefusal, mostCells}
 use Rattle.semantics.specs.Words.{Width, tombstoneKey, encode}
-use Rattle.semantics.specs.Narrow.{narrowWidth}
-use Rattle.semantics.specs.Text.{mostText}
-use Rattle.semantics.specs.Listing.{narrowText, refusalText}
-use Rattle.semantics.specs.Response.{runOf, listed, response}
+use Rattle.semantics.specs.Listing.{refusalText}
+use Rattle.semantics.specs.Widths.{widthOf, textOf, mostTextOf}
+use Rattle.semantics.specs.Response.{runOf, listed, responseIn, isWide, response}
 use Rattle.semantics.proofs.Counts.{count-le}
 use Rattle.semantics.proofs.Sizes.{allowed-bounds}
 use Rattle.semantics.proofs.Words.{Packing, encode-key}
-use Rattle.semantics.proofs.Narrow.{narrow-packing}
+use Rattle.semantics.proofs.Widths.{packing-of, short, longest, most-text}
 use Rattle.semantics.proofs.Start.{Passed, accepted-call}
 use Rattle.semantics.proofs.WordsHold.{accepted, number-is, packs, same-length}
-use Rattle.semantics.proofs.Lengths.{Within, looser, refusal, Short, narrow-short, Small, mostListing, listing-within}
+use Rattle.semantics.proofs.Lengths.{Within, looser, refusal, Short, Small, mostListing, listing-within}
 
 -- the text of the run of what a file holds, at any width
 module _ {W : Width} (P : Packing W) {totalText : Total → List ℕ} {m : ℕ} (short : Short W totalText m) (h : Contents) where
@@ -64,15 +64,20 @@ module _ {W : Width} (P : Packing W) {totalText : Total → List ℕ} {m : ℕ} 
           let f = sym (number-is W (h .cells) (h .operations) (h .schedule) slice slice) ∙ e in
           subst Bounds (sym (accepted W (h .cells) (h .operations) (h .schedule) slice slice f)) (small (accepted-call W called f))
 
-pub bounded : (file : List ℕ) → length (response file) ≤ mostText
-unfolding response
-bounded file = go (eqb (number-of .number) 0) .most
-  where
-    number-of : Refusal
-    number-of = readerRefusal narrowFile file mostCells mostOperations mostEntries
+module _ (wide : Bool) (file : List ℕ) where
+  abbrev refusal-of : Refusal
+  refusal-of = readerRefusal (layoutOf wide) file mostCells mostOperations mostEntries
 
-    go : (z : Bool)
-        → Within mostText
-        (cond z (listed narrowWidth narrowText (contents narrowFile file .operations) (runOf narrowWidth (contents narrowFile file))) (refusalText (number-of .number) (number-of .place)))
-    go true = looser mostText (omega arith) (run-listed narrow-packing narrow-short (contents narrowFile file))
-    go false = looser mostText (omega arith) (refusal (number-of .number) (number-of .place))
+  within-most : Within (mostListing (longest wide)) (responseIn wide file)
+  unfolding responseIn
+  within-most = go (eqb (refusal-of .number) 0)
+    where
+      go : (z : Bool)
+          → Within (mostListing (longest wide))
+          (cond z (listed (widthOf wide) (textOf wide) (contents (layoutOf wide) file .operations) (runOf (widthOf wide) (contents (layoutOf wide) file))) (refusalText (refusal-of .number) (refusal-of .place)))
+      go true = run-listed (packing-of wide) (short wide) (contents (layoutOf wide) file)
+      go false = looser (mostListing (longest wide)) (omega arith) (refusal (refusal-of .number) (refusal-of .place))
+
+pub bounded : (file : List ℕ) → length (response file) ≤ mostTextOf (isWide file)
+unfolding response
+bounded file = omega (arith, within-most (isWide file) file .most, most-text (isWide file))

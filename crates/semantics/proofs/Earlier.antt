@@ -15,15 +15,16 @@ use Rattle.semantics.specs.declared.Mark.{Mark}
 use Rattle.semantics.specs.declared.Mark.the-variants.{Table, Cell, Operation, Schedule, Unknown}
 use Rattle.semantics.specs.declared.Position.{Position}
 use Rattle.semantics.specs.Words.{Width, isPowerFrom, sizeAllowed}
-use Rattle.semantics.specs.Narrow.{narrowWidth, roomHome}
+use Rattle.semantics.specs.Narrow.{roomHome}
 use Rattle.semantics.specs.Refusals.{sizeNotAllowed, runConditions, runRefusal, mostOperations, mostEntries}
 use Rattle.semantics.specs.Run.{machine, acceptedResult, refusedResult, refusalOf, resultIf, runResult}
 use Rattle.semantics.specs.Records.{faultAt, goesOn, recordsFrom, records, recordConditions}
-use Rattle.semantics.specs.RunFile.{Layout, narrowFile, row, byteAt, markAt, mayFollow, nextOf, runFile, start}
+use Rattle.semantics.specs.RunFile.{Layout, layoutOf, row, byteAt, markAt, mayFollow, nextOf, runFile, start}
 use Rattle.semantics.specs.RunFile.{markWrong, bodyWrong, conditionsAt, fileTooLong, fileConditions, sliceTooShort}
 use Rattle.semantics.specs.RunFile.{Contents, contents, readerRefusal, reading, mostCells}
-use Rattle.semantics.specs.Listing.{narrowText, refusalText}
-use Rattle.semantics.specs.Response.{runOf, listed, response}
+use Rattle.semantics.specs.Listing.{refusalText}
+use Rattle.semantics.specs.Widths.{widthOf, textOf}
+use Rattle.semantics.specs.Response.{runOf, listed, responseIn, isWide, response}
 use Rattle.semantics.specs.Earlier.{earlierSize, homeBy, refusalBy, resultBy, bodyWrongBy, conditionsBy, fileBy, readerRefusalBy, contentsBy, readingBy, responseBy}
 use Rattle.semantics.proofs.Booleans.{true-T, passed, affirmed, both}
 use Rattle.semantics.proofs.Records.{from-here}
@@ -138,35 +139,35 @@ module _ (allowed : ℕ → Bool) (L : Layout) (file : List ℕ) where
     reading-same cells operations schedule = rw (reader-same (length cells) (length operations) (length schedule), contents-same)
 
 -- what is written for a file
-module _ (allowed : ℕ → Bool) (file : List ℕ) (h : Agrees allowed narrowFile file start) where
+module _ (allowed : ℕ → Bool) (wide : Bool) (file : List ℕ) (h : Agrees allowed (layoutOf wide) file start) where
   abbrev refusal : Refusal
-  refusal = readerRefusal narrowFile file mostCells mostOperations mostEntries
+  refusal = readerRefusal (layoutOf wide) file mostCells mostOperations mostEntries
 
   abbrev read : Contents
-  read = contents narrowFile file
+  read = contents (layoutOf wide) file
 
   abbrev slice : List ℕ
   slice = replicate mostOperations 0
 
-  size-agrees : refusal .number ≡ 0 → allowed (length (contents narrowFile file .cells)) ≡ sizeAllowed (length (contents narrowFile file .cells))
+  size-agrees : refusal .number ≡ 0 → allowed (length (contents (layoutOf wide) file .cells)) ≡ sizeAllowed (length (contents (layoutOf wide) file .cells))
   size-agrees e =
-      let accepted = records-accepted narrowFile file mostCells mostOperations mostEntries e in
-      rw (cells-as-said narrowFile file accepted) (h (begins-with-table narrowFile file accepted) refl)
+      let accepted = records-accepted (layoutOf wide) file mostCells mostOperations mostEntries e in
+      rw (cells-as-said (layoutOf wide) file accepted) (h (begins-with-table (layoutOf wide) file accepted) refl)
 
-  pub response-same : responseBy allowed file ≡ response file
-  unfolding responseBy response runOf
+  pub response-same : responseBy allowed wide file ≡ responseIn wide file
+  unfolding responseBy responseIn runOf
   response-same =
-      rw (reader-same allowed narrowFile file h mostCells mostOperations mostEntries, contents-same allowed narrowFile file h)
+      rw (reader-same allowed (layoutOf wide) file h mostCells mostOperations mostEntries, contents-same allowed (layoutOf wide) file h)
       (go (eqb (refusal .number) 0) refl)
     where
       go : (b : Bool) → eqb (refusal .number) 0 ≡ b
-          → cond b (listed narrowWidth narrowText (read .operations) (resultBy allowed narrowWidth (read .cells) (read .operations) (read .schedule) slice slice))
+          → cond b (listed (widthOf wide) (textOf wide) (read .operations) (resultBy allowed (widthOf wide) (read .cells) (read .operations) (read .schedule) slice slice))
           (refusalText (refusal .number) (refusal .place))
-          ≡ cond b (listed narrowWidth narrowText (read .operations) (runResult narrowWidth (read .cells) (read .operations) (read .schedule) slice slice))
+          ≡ cond b (listed (widthOf wide) (textOf wide) (read .operations) (runResult (widthOf wide) (read .cells) (read .operations) (read .schedule) slice slice))
           (refusalText (refusal .number) (refusal .place))
       go true e =
-          ap (listed narrowWidth narrowText (read .operations))
-          (result-same allowed narrowWidth (read .cells) (read .operations) (read .schedule) slice slice (size-agrees (eqb→eq _ 0 (true-T _ e))))
+          ap (listed (widthOf wide) (textOf wide) (read .operations))
+          (result-same allowed (widthOf wide) (read .cells) (read .operations) (read .schedule) slice slice (size-agrees (eqb→eq _ 0 (true-T _ e))))
       go false e = refl
 
 -- THE CLAIM. Calls with 8 cells or more give what they gave, and so do files that do not begin with a table of fewer.
@@ -188,5 +189,6 @@ module _ (L : Layout) (file : List ℕ) where
       → readingBy earlierSize L file cells operations schedule ≡ reading L file cells operations schedule
   reading-kept h = reading-same earlierSize L file (agrees h)
 
-pub response-kept : (file : List ℕ) → NotFewer narrowFile file → responseBy earlierSize file ≡ response file
-response-kept file h = response-same earlierSize file (agrees narrowFile file h)
+pub response-kept : (file : List ℕ) → NotFewer (layoutOf (isWide file)) file → responseBy earlierSize (isWide file) file ≡ response file
+unfolding response
+response-kept file h = response-same earlierSize (isWide file) file (agrees (layoutOf (isWide file)) file h)

@@ -2,17 +2,18 @@
 -- Assumes nothing.
 use mathlib.Core.Path.{_≡_, refl, sym, ap, ap₂, _∙_}
 use Prim.Native.Nat.{ℕ, zero, suc, _+_, _-_, _≤_, _<_}
-use mathlib.Core.Bool.{true, false, not}
-use mathlib.Core.List.{List, [], _∷_, map, append-nil}
+use mathlib.Core.Bool.{Bool, true, false, not}
+use mathlib.Core.List.{List, [], _∷_, _++_, map, append-nil}
 use native.Mathlib.Omega.{arith}
 use lib.Dec.{leb}
 use lib.ListN.{length, getD, length-append, length-map, List·getD-append, List·getD-map}
 use lib.Seq.{getD-append-add}
-use Rattle.semantics.specs.Words.{isLiveKey}
-use Rattle.semantics.specs.Narrow.{keyOf, tombstoneWord, cellAllowed, operationAllowed, narrowWidth}
-use Rattle.semantics.specs.Wide.{wideKeyOf, isWideTotal, isNothing, wideCellAllowed, wideOperationAllowed}
+use Rattle.semantics.specs.Words.{Width, isLiveKey}
+use Rattle.semantics.specs.Narrow.{keyOf, tombstoneWord, cellAllowed, narrowWidth}
+use Rattle.semantics.specs.Wide.{wideKeyOf, isWideTotal, isNothing, wideCellAllowed, wideWidth}
+use Rattle.semantics.specs.Widths.{widthOf, ofWidth}
 use Rattle.semantics.specs.Refusals.{callOf, atFirst, badCell, badOperation, badEntry, wordsConditions}
-use Rattle.semantics.specs.Lent.{lent, tableKeys, lentWords, lentTable}
+use Rattle.semantics.specs.Lent.{lent, tableKeys, cellsAllowed, operationAllowedIn, lentWords, lentTable}
 
 mapped : {A : Type 0} (f : ℕ → A) (l : List ℕ) (i : ℕ) (d : A) → i < length l → getD (map f l) i d ≡ f (getD l i 0)
 mapped f [] i d b = absurd (omega arith)
@@ -34,46 +35,58 @@ module _ {A : Type 0} (f g : ℕ → A) (narrow wide : List ℕ) where
       ∙ getD-append-add (map f narrow) (map g wide) (i - length narrow) d
       ∙ mapped g wide (i - length narrow) d h
 
--- a narrow table; of a wide one the same holds by computing
-pub lent-none : {A : Type 0} (f g : ℕ → A) (narrow : List ℕ) → lent f g narrow [] ≡ map f narrow
-lent-none f g narrow = append-nil (map f narrow)
-
 pub keys-size : (narrow wide : List ℕ) → length narrow + length wide ≡ length (tableKeys narrow wide)
 keys-size = lent-size keyOf wideKeyOf
 
--- what a cell has, where 0 has the default: in a narrow table and in a wide one
-module _ {A : Type 0} (f g : ℕ → A) (cells : List ℕ) where
-  pub narrow-at : (i : ℕ) (d : A) → f 0 ≡ d → getD (lent f g cells []) i d ≡ f (getD cells i 0)
-  narrow-at i d e = ap (λ (l : List A). getD l i d) (lent-none f g cells) ∙ ap (getD (map f cells) i) (sym e) ∙ List·getD-map f cells i 0
+-- A table that is lent in the slice of its width alone: the two are that one, each word has what the layout of the width says, and the conditions on
+-- the words and on the keys are those of the width.
+module _ (flagged : Bool) (narrow wide : List ℕ) (alone : ofWidth (not flagged) narrow wide ≡ []) where
+  pub words-alone : narrow ++ wide ≡ ofWidth flagged narrow wide
+  words-alone = go flagged alone
+    where
+      go : (b : Bool) → ofWidth (not b) narrow wide ≡ [] → narrow ++ wide ≡ ofWidth b narrow wide
+      go false e = ap (λ (l : List ℕ). narrow ++ l) e ∙ append-nil narrow
+      go true e = ap (λ (l : List ℕ). l ++ wide) e
 
-  pub wide-at : (i : ℕ) (d : A) → g 0 ≡ d → getD (lent f g [] cells) i d ≡ g (getD cells i 0)
-  wide-at i d e = ap (getD (map g cells) i) (sym e) ∙ List·getD-map g cells i 0
+  lent-alone : {A : Type 0} (field : Width → ℕ → A)
+      → lent (field narrowWidth) (field wideWidth) narrow wide ≡ map (field (widthOf flagged)) (ofWidth flagged narrow wide)
+  lent-alone {A} field = go flagged alone
+    where
+      go : (b : Bool) → ofWidth (not b) narrow wide ≡ []
+          → lent (field narrowWidth) (field wideWidth) narrow wide ≡ map (field (widthOf b)) (ofWidth b narrow wide)
+      go false e = ap (lent (field narrowWidth) (field wideWidth) narrow) e ∙ append-nil (map (field narrowWidth) narrow)
+      go true e = ap (λ (l : List ℕ). lent (field narrowWidth) (field wideWidth) l wide) e
 
-  narrow-size : length (lent f g cells []) ≡ length cells
-  narrow-size = ap length (lent-none f g cells) ∙ length-map cells f
+  abbrev alone-words : List ℕ
+  alone-words = ofWidth flagged narrow wide
 
--- The conditions on a table are those of its one slice that is not empty: on its words, and on its keys. Of a wide one's keys that computes.
-pub narrow-words : (cells operations schedule : List ℕ)
-    → lentWords cells [] false operations schedule ≡ wordsConditions narrowWidth (callOf cells operations schedule 0 0)
-unfolding badCell badOperation badEntry cellAllowed isLiveKey tombstoneWord
-narrow-words cells operations schedule =
-    λ j. atFirst 4 (narrow-size cellAllowed wideCellAllowed cells j) (λ i. not (narrow-at cellAllowed wideCellAllowed cells i true refl j))
-    ∷ atFirst 5 (length operations) (λ i. not (operationAllowed (getD operations i 0)))
-    ∷ atFirst 6 (length schedule) (λ i. leb (length operations) (getD schedule i 0))
-    ∷ []
+  abbrev allowed : ℕ → Bool
+  allowed = widthOf flagged .cellAllowed
 
-pub wide-words : (cells operations schedule : List ℕ)
-    → lentWords [] cells true operations schedule
-    ≡ atFirst 4 (length cells) (λ i. not (wideCellAllowed (getD cells i 0)))
-    ∷ atFirst 5 (length operations) (λ i. not (wideOperationAllowed (getD operations i 0)))
-    ∷ atFirst 6 (length schedule) (λ i. leb (length operations) (getD schedule i 0))
-    ∷ []
-unfolding wideCellAllowed isWideTotal isNothing isLiveKey
-wide-words cells operations schedule =
-    λ j. atFirst 4 (length-map cells wideCellAllowed j) (λ i. not (wide-at cellAllowed wideCellAllowed cells i true refl j))
-    ∷ atFirst 5 (length operations) (λ i. not (wideOperationAllowed (getD operations i 0)))
-    ∷ atFirst 6 (length schedule) (λ i. leb (length operations) (getD schedule i 0))
-    ∷ []
+  empty-allowed : (b : Bool) → widthOf b .cellAllowed 0 ≡ true
+  unfolding cellAllowed wideCellAllowed isWideTotal isNothing isLiveKey tombstoneWord
+  empty-allowed false = refl
+  empty-allowed true = refl
 
-pub narrow-table : (cells : List ℕ) → lentTable (tableKeys cells []) ≡ lentTable (map keyOf cells)
-narrow-table cells = ap lentTable (lent-none keyOf wideKeyOf cells)
+  operation-in : (b : Bool) (w : ℕ) → operationAllowedIn b w ≡ widthOf b .operationAllowed w
+  operation-in false w = refl
+  operation-in true w = refl
+
+  cell-in : (i : ℕ) → getD (cellsAllowed narrow wide) i true ≡ allowed (getD alone-words i 0)
+  cell-in i =
+      ap (λ (l : List Bool). getD l i true) (lent-alone (λ (W : Width). W .cellAllowed))
+      ∙ ap (getD (map allowed alone-words) i) (sym (empty-allowed flagged))
+      ∙ List·getD-map allowed alone-words i 0
+
+  pub words-judged : (operations schedule : List ℕ)
+      → lentWords narrow wide flagged operations schedule ≡ wordsConditions (widthOf flagged) (callOf alone-words operations schedule 0 0)
+  unfolding badCell badOperation badEntry
+  words-judged operations schedule =
+      let size = ap length (lent-alone (λ (W : Width). W .cellAllowed)) ∙ length-map alone-words allowed in
+      λ j. atFirst 4 (size j) (λ i. not (cell-in i j))
+      ∷ atFirst 5 (length operations) (λ i. not (operation-in flagged (getD operations i 0) j))
+      ∷ atFirst 6 (length schedule) (λ i. leb (length operations) (getD schedule i 0))
+      ∷ []
+
+  pub keys-judged : lentTable (tableKeys narrow wide) ≡ lentTable (map (widthOf flagged .keyOf) alone-words)
+  keys-judged = ap lentTable (lent-alone (λ (W : Width). W .keyOf))

@@ -6,10 +6,10 @@ use mathlib.Core.Bool.{Bool, true, false}
 use mathlib.Core.List.{List}
 use native.Mathlib.Nat.{add-assoc, add-zero}
 use native.Mathlib.Omega.{arith}
-use lib.Dec.{eqb, ltb}
+use lib.Dec.{ltb}
 use lib.ListN.{take, drop}
 use lib.Seq.{getD-take, getD-drop}
-use Rattle.semantics.specs.RunFile.{Layout, layoutOf, flaggedAt, byteAt, pairAt, hasMark, markIn, markAt}
+use Rattle.semantics.specs.RunFile.{Layout, layoutOf, byteAt, pairAt, hasMark, markIn, markAt}
 
 -- a total has two to five bytes
 pub total-bytes : (flagged : Bool) → (2 ≤ layoutOf flagged .totalSize) × (layoutOf flagged .totalSize ≤ 5)
@@ -38,16 +38,3 @@ module _ {n : ℕ} {part file : List ℕ} {at : ℕ} (same : Agrees n part file 
   pub total-agrees : (flagged : Bool) (i : ℕ) → i < n → layoutOf flagged .isTotalWrong part i ≡ layoutOf flagged .isTotalWrong file (at + i)
   total-agrees true i h = ap (ltb 1) (same .byte i h)
   total-agrees false i h = refl
-
-  -- a part of the part
-  pub inner-agrees : (m i : ℕ) → i + m ≤ n → Agrees m (take (i + m - i) (drop i part)) file (at + i)
-  inner-agrees m i h =
-      record { byte = λ j k. part-agrees m part i .byte j k ∙ same .byte (i + j) (omega arith) ∙ ap (byteAt file) (sym (add-assoc at i j)) }
-
--- a total with its flag
-pub flagged-agrees : {part file : List ℕ} {at : ℕ} → Agrees 5 part file at → flaggedAt part 0 ≡ flaggedAt file at
-flagged-agrees {file = file} {at = at} same =
-    let high = pair-agrees same 1 (omega arith) in
-    let low = pair-agrees same 3 (omega arith) in
-    let flag = same .byte 0 (omega arith) ∙ ap (byteAt file) (add-zero at) in
-    λ i. record { amount = high i * 65536 + low i; saturated = eqb (flag i) 1 }

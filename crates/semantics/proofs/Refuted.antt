@@ -3,7 +3,7 @@
 -- Assumes nothing.
 use mathlib.Core.Path.{_≡_, refl, ap}
 use Prim.Native.Nat.{ℕ, _<_, _≤_}
-use mathlib.Core.Bool.{Bool, true, false, not}
+use mathlib.Core.Bool.{Bool, true, false, cond, not}
 use mathlib.Core.List.{List, [], _∷_}
 use mathlib.Core.Option.{Option, none, some}
 use native.Mathlib.Omega.{arith}
@@ -18,10 +18,11 @@ use Rattle.semantics.specs.Cells.{lookup}
 use Rattle.semantics.specs.Map as Map
 use Rattle.semantics.specs.TotalsRule as TotalsRule
 use Rattle.semantics.specs.Narrow.{operationWord as operation, packedAnswer as answer}
+use Rattle.semantics.specs.Wide.{wideOperationWord as wideOperation, widePackedAnswer as wideAnswer, wideWidth}
 use Rattle.semantics.specs.Run.{Result, machine, acceptedResult, runResult, madeOutcome, refusedOutcome}
 use Rattle.semantics.specs.Demands.{cellsOf, operationsOf, replayOf, Linearizable, TotalsKept, Untouched, afterEntries, Demands}
 use Rattle.semantics.specs.Earlier.{earlierSize, refusalBy, resultBy}
-use Rattle.semantics.specs.Cases.{table, at, job, resultOf, fullTable}
+use Rattle.semantics.specs.Cases.{table, at, plain, flagged, wideAt, job, resultOf, fullTable}
 use Rattle.semantics.proofs.Booleans.{eq→eqb}
 use Rattle.semantics.proofs.Narrow.{narrow-packing}
 use Rattle.semantics.proofs.WordsHold.{demands}
@@ -46,6 +47,10 @@ differ {a} {b} e d = go (eqb a b) (eq→eqb a b e) d
 amount : Option Total → ℕ
 amount none = 0
 amount (some t) = t .amount
+
+flag : Option Total → ℕ
+flag none = 0
+flag (some t) = cond (t .saturated) 1 0
 
 -- The document's fifth case: two adds to room 1 race, and the second loses its swap once.
 abbrev start : List ℕ
@@ -195,29 +200,57 @@ a-room-nobody-added : TotalsKept narrowWidth start adds (left (table 8 (at 4 1 5
 unfolding replayed amount
 a-room-nobody-added h = differ (ap amount (h tt refl (lit≤ tt) 9)) tt
 
+-- the same demand of the wide width: 4 added to a pinned 3, or a pinned 4 to 3, gives a pinned 7, and a flag that is lost or a pinned total that is
+-- held at the ceiling is another
+abbrev wide-sum : Total → Total → Total → Type 0
+wide-sum t a sum =
+    TotalsKept wideWidth (table 8 (wideAt 4 1 t ∷ [])) (wideOperation 4 1 a ∷ []) (left (table 8 (wideAt 4 1 sum ∷ [])) (wideAnswer 4 t ∷ []) (0 ∷ []) 1)
+
+a-lost-flag : wide-sum (flagged 3) (plain 4) (plain 7) → ⊥
+unfolding replayed flag
+a-lost-flag h = differ (ap flag (h tt refl (lit≤ tt) 1)) tt
+
+a-lost-flag-of-an-amount : wide-sum (plain 3) (flagged 4) (plain 7) → ⊥
+unfolding replayed flag
+a-lost-flag-of-an-amount h = differ (ap flag (h tt refl (lit≤ tt) 1)) tt
+
+a-pinned-total-at-the-ceiling : wide-sum (flagged 3) (plain 4) (flagged 4294967295) → ⊥
+unfolding replayed amount
+a-pinned-total-at-the-ceiling h = differ (ap amount (h tt refl (lit≤ tt) 1)) tt
+
+a-flag-made-up : wide-sum (plain 3) (plain 4) (flagged 7) → ⊥
+unfolding replayed flag
+a-flag-made-up h = differ (ap flag (h tt refl (lit≤ tt) 1)) tt
+
+-- and demand 2: an add of a pinned amount that is not said to have capped
+not-capped-by-a-flag : Linearizable wideWidth (table 8 (wideAt 4 1 (plain 3) ∷ [])) (wideOperation 4 1 (flagged 4) ∷ [])
+    (left (table 8 (wideAt 4 1 (flagged 7) ∷ [])) (wideAnswer 4 (plain 3) ∷ []) (0 ∷ []) 1) → ⊥
+unfolding replayed
+not-capped-by-a-flag h = differ (ap (λ l. getD l 0 0) (h .answers)) tt
+
 -- and each of its hypotheses is needed: a run that meets the other two, and of which the sums are false
 abbrev Sums : List ℕ → List ℕ → Result → Type 0
 Sums cells operations r =
     (k : ℕ) → lookup k (cellsOf narrowWidth (r .cells)) ≡ TotalsRule.expected (settingOf narrowWidth (length cells)) (cellsOf narrowWidth cells) (operationsOf narrowWidth operations) k
 
 -- not only finds and adds: an update
-an-update : (resultOf (job start (operation 3 1 5 ∷ []) (0 ∷ 0 ∷ [])) .outcome .done ≡ 1)
+an-update : (resultOf false (job start (operation 3 1 5 ∷ []) (0 ∷ 0 ∷ [])) .outcome .done ≡ 1)
     × TotalsRule.CellsSuffice (settingOf narrowWidth (length start)) (cellsOf narrowWidth start) (operationsOf narrowWidth (operation 3 1 5 ∷ []))
-    × (Sums start (operation 3 1 5 ∷ []) (resultOf (job start (operation 3 1 5 ∷ []) (0 ∷ 0 ∷ []))) → ⊥)
+    × (Sums start (operation 3 1 5 ∷ []) (resultOf false (job start (operation 3 1 5 ∷ []) (0 ∷ 0 ∷ []))) → ⊥)
 unfolding replayed amount
 an-update = (refl, lit≤ tt, λ h. differ (ap amount (h 1)) tt)
 
 -- not every operation finished: an add that has read and not swapped
 an-unfinished-add : T (TotalsRule.onlyFindsAndAdds (operationsOf narrowWidth (operation 4 1 5 ∷ [])))
     × TotalsRule.CellsSuffice (settingOf narrowWidth (length start)) (cellsOf narrowWidth start) (operationsOf narrowWidth (operation 4 1 5 ∷ []))
-    × (Sums start (operation 4 1 5 ∷ []) (resultOf (job start (operation 4 1 5 ∷ []) (0 ∷ []))) → ⊥)
+    × (Sums start (operation 4 1 5 ∷ []) (resultOf false (job start (operation 4 1 5 ∷ []) (0 ∷ []))) → ⊥)
 unfolding replayed amount
 an-unfinished-add = (tt, lit≤ tt, λ h. differ (ap amount (h 1)) tt)
 
 -- cells that do not suffice: an add to a full table
 a-full-table : T (TotalsRule.onlyFindsAndAdds (operationsOf narrowWidth (operation 4 9 1 ∷ [])))
-    × (resultOf (job fullTable (operation 4 9 1 ∷ []) (replicate 8 0)) .outcome .done ≡ 1)
-    × (Sums fullTable (operation 4 9 1 ∷ []) (resultOf (job fullTable (operation 4 9 1 ∷ []) (replicate 8 0))) → ⊥)
+    × (resultOf false (job fullTable (operation 4 9 1 ∷ []) (replicate 8 0)) .outcome .done ≡ 1)
+    × (Sums fullTable (operation 4 9 1 ∷ []) (resultOf false (job fullTable (operation 4 9 1 ∷ []) (replicate 8 0))) → ⊥)
 unfolding replayed amount
 a-full-table = (tt, refl, λ h. differ (ap amount (h 9)) tt)
 

@@ -1,6 +1,6 @@
 -- An aid, not to be believed: what the definitions come to on examples, computed by the prover.
 -- Document 01, "Worked in the room table": its starred cases, with document 02 where a request has moved one; then those of document 02, request
--- by request; then further ones: the rows of one list. proofs/Cases.antt covers them by one claim, that each holds; and it shows three runs
+-- by request; then further ones: the rows of one list. proofs/Cases.antt covers them by one claim, that each holds; and it shows four runs
 -- of which all that demand 3 asks is true.
 -- Tables have 8 cells where no other number stands. Slices for answers and log are as long as the operations where no length stands, and
 -- lent slices hold 9 before a call.
@@ -8,13 +8,15 @@
 use mathlib.Core.Path.{_≡_}
 use Prim.Native.String.{String}
 use Prim.Native.Nat.{ℕ, zero, suc, _+_, _-_, _^_, _/_, _%_}
-use mathlib.Core.Bool.{Bool, true, false, _&&_, Bool·beq}
+use mathlib.Core.Bool.{Bool, true, false, cond, _&&_, Bool·beq}
 use mathlib.Core.List.{List, [], _∷_, _++_}
 use lib.Dec.{T, eqb}
 use lib.ListN.{length, set, replicate}
-use Rattle.semantics.specs.Totals.{plusAt}
+use Rattle.semantics.specs.declared.Total.{Total}
+use Rattle.semantics.specs.Totals.{plusAt, capsAt, sameTotal}
 use Rattle.semantics.specs.Words.{settingOf}
-use Rattle.semantics.specs.Narrow.{narrow, narrowCeiling, narrowWidth}
+use Rattle.semantics.specs.Narrow.{narrow, narrowCeiling}
+use Rattle.semantics.specs.Wide.{wideCeiling, wideCellWord as wideCell, wideOperationWord as wideOperation, widePackedAnswer as wideAnswer}
 use Rattle.semantics.specs.TotalsRule.{onlyFindsAndAdds, CellsSuffice}
 use Rattle.semantics.specs.Narrow.{cellWord as cell, operationWord as operation, packedAnswer as answer, roomHome, roomSum}
 use Rattle.semantics.specs.Run.{Result, runResult}
@@ -23,21 +25,31 @@ use Rattle.semantics.specs.Text.{text}
 use Rattle.semantics.specs.declared.Refusal.{Refusal}
 use Rattle.semantics.specs.declared.Position.{Position}
 use Rattle.semantics.specs.Records.{faultAt}
-use Rattle.semantics.specs.RunFile.{Contents, Reading, narrowFile, reading, readerRefusal, runFile, nextOf}
+use Rattle.semantics.specs.RunFile.{Contents, Reading, layoutOf, reading, readerRefusal, runFile, nextOf}
+use Rattle.semantics.specs.Widths.{widthOf}
 use Rattle.semantics.specs.Response.{response}
 
 -- c cells, empty but for those named by number, key and total
 pub record Placed : Type 0 where
   pub number : ℕ
-  pub key : ℕ
-  pub total : ℕ
+  pub word : ℕ
 
 abbrev pub at : ℕ → ℕ → ℕ → Placed
-at n k t = record { number = n; key = k; total = t }
+at n k t = record { number = n; word = cell k t }
 
 abbrev pub table : ℕ → List Placed → List ℕ
 table c [] = replicate c 0
-table c (p ∷ more) = set (table c more) (p .number) (cell (p .key) (p .total))
+table c (p ∷ more) = set (table c more) (p .number) (p .word)
+
+-- the same of the wide width, whose totals are true or pinned
+abbrev pub plain : ℕ → Total
+plain n = record { amount = n; saturated = false }
+
+abbrev pub flagged : ℕ → Total
+flagged n = record { amount = n; saturated = true }
+
+abbrev pub wideAt : ℕ → ℕ → Total → Placed
+wideAt n k t = record { number = n; word = wideCell k t }
 
 -- a list n times over
 abbrev rounds : ℕ → List ℕ → List ℕ
@@ -79,14 +91,12 @@ left cells answers log done lost idle = record { cells = cells; answers = answer
 abbrev nothing : Contents
 nothing = job [] [] []
 
-unfoldable pub resultOf : Contents → Result
-resultOf j =
-    let slice : List ℕ = replicate (length (j .operations)) 9 in
-    runResult narrowWidth (j .cells) (j .operations) (j .schedule) slice slice
+-- at a width, which is told by whether its totals have a flag, with slices for so many answers and so many log bytes
+unfoldable pub resultWith : Bool → ℕ → ℕ → Contents → Result
+resultWith wide answers log j = runResult (widthOf wide) (j .cells) (j .operations) (j .schedule) (replicate answers 9) (replicate log 9)
 
--- the same with slices for so many answers and so many log bytes
-unfoldable pub resultWith : ℕ → ℕ → Contents → Result
-resultWith answers log j = runResult narrowWidth (j .cells) (j .operations) (j .schedule) (replicate answers 9) (replicate log 9)
+unfoldable pub resultOf : Bool → Contents → Result
+resultOf wide j = resultWith wide (length (j .operations)) (length (j .operations)) j
 
 pub data Case : Type 0 where
   -- the home of a key in c cells
@@ -112,6 +122,10 @@ pub data Case : Type 0 where
   judgedIn : ℕ → ℕ → ℕ → List ℕ → ℕ → ℕ → Case
   -- the number that turns away an SC record of n entries where so many came before it, and how many there are after it
   counted : ℕ → ℕ → ℕ → ℕ → Case
+  -- the sum of two wide totals, and whether a true first one became pinned
+  sumsTo : Total → Total → Total → Bool → Case
+  -- any of these of the wide width
+  inWide : Case → Case
 
 unfoldable pub sameList : List ℕ → List ℕ → Bool
 sameList [] [] = true
@@ -143,30 +157,36 @@ unfoldable pub lentAs : ℕ → ℕ → ℕ → Contents → Contents
 lentAs cells operations entries h =
     job (lent cells (h .cells)) (lent operations (h .operations)) (lent entries (h .schedule))
 
-unfoldable pub readingOf : List ℕ → Contents → Reading
-readingOf file slices = reading narrowFile file (slices .cells) (slices .operations) (slices .schedule)
+unfoldable pub readingOf : Bool → List ℕ → Contents → Reading
+readingOf wide file slices = reading (layoutOf wide) file (slices .cells) (slices .operations) (slices .schedule)
 
-unfoldable pub holds : Case → Bool
-holds (homeIs k c h) = eqb (roomHome k c) h
-holds (sumIs a b s p) = eqb (roomSum a b) s && Bool·beq (plusAt narrowCeiling (narrow a) (narrow b) .saturated) p
-holds (leaves j l) = leftBy 0 0 l (resultOf j)
-holds (refused cells number place) = leftBy number place (left cells [] [] 0 0 0) (resultOf (job cells [] []))
-holds (writes file expected) = sameList (response file) expected
-holds (leavesIn answers log j l) = leftBy 0 0 l (resultWith answers log j)
+unfoldable pub holdsAt : Bool → Case → Bool
+holdsAt wide (homeIs k c h) = eqb (roomHome k c) h
+holdsAt wide (sumIs a b s p) = eqb (roomSum a b) s && Bool·beq (plusAt narrowCeiling (narrow a) (narrow b) .saturated) p
+holdsAt wide (leaves j l) = leftBy 0 0 l (resultOf wide j)
+holdsAt wide (refused cells number place) = leftBy number place (left cells [] [] 0 0 0) (resultOf wide (job cells [] []))
+holdsAt wide (writes file expected) = sameList (response file) expected
+holdsAt wide (leavesIn answers log j l) = leftBy 0 0 l (resultWith wide answers log j)
 -- "all counts are 0 and nothing lent is altered"
-holds (turnedAway answers log j number place) =
-    leftBy number place (left (j .cells) (replicate answers 9) (replicate log 9) 0 0 0) (resultWith answers log j)
+holdsAt wide (turnedAway answers log j number place) =
+    leftBy number place (left (j .cells) (replicate answers 9) (replicate log 9) 0 0 0) (resultWith wide answers log j)
 -- "Rows without entries: all answers written as 0, no cell or log byte altered."
-holds (begins cells operations) =
-    leftBy 0 0 (left cells (replicate (length operations) 0) (replicate (length operations) 9) 0 0 0) (resultOf (job cells operations []))
-holds (reads file h) = readBy 0 0 h (lentAs 4096 64 16384 h) (readingOf file (lentAs 4096 64 16384 nothing))
-holds (unread file cells operations entries number place) =
-    readBy number place nothing (lentAs cells operations entries nothing) (readingOf file (lentAs cells operations entries nothing))
-holds (judgedIn cells operations entries file number place) = refusedBy number place (readerRefusal narrowFile file cells operations entries)
-holds (counted before n number after) =
+holdsAt wide (begins cells operations) =
+    leftBy 0 0 (left cells (replicate (length operations) 0) (replicate (length operations) 9) 0 0 0) (resultOf wide (job cells operations []))
+holdsAt wide (reads file h) = readBy 0 0 h (lentAs 4096 64 16384 h) (readingOf wide file (lentAs 4096 64 16384 nothing))
+holdsAt wide (unread file cells operations entries number place) =
+    readBy number place nothing (lentAs cells operations entries nothing) (readingOf wide file (lentAs cells operations entries nothing))
+holdsAt wide (judgedIn cells operations entries file number place) =
+    refusedBy number place (readerRefusal (layoutOf wide) file cells operations entries)
+holdsAt wide (counted before n number after) =
     let file = scheduleRecord (replicate n 0) in
     let p : Position = record { at = 0; part = 4; size = 8; lowest = 0; operations = 1; entries = before } in
-    eqb number (faultAt (runFile narrowFile) file p) && eqb after (nextOf narrowFile file p .entries)
+    eqb number (faultAt (runFile (layoutOf wide)) file p) && eqb after (nextOf (layoutOf wide) file p .entries)
+holdsAt wide (sumsTo a b s c) = sameTotal (plusAt wideCeiling a b) s && Bool·beq (capsAt wideCeiling a b) c
+holdsAt wide (inWide x) = holdsAt true x
+
+unfoldable pub holds : Case → Bool
+holds = holdsAt false
 
 -- files: how they are judged with slices just long enough, and the lines that are written for them
 abbrev judged : List ℕ → ℕ → ℕ → Case
@@ -341,6 +361,149 @@ smallTables =
     ∷ refused (table 2 (at 0 1 1 ∷ at 1 1 2 ∷ [])) 7 1 ∷ refused (table 2 (at 0 1 1 ∷ [])) 8 0 ∷ refused (table 2 (at 1 2 1 ∷ [])) 8 1
     ∷ begins (table 2 (at 0 1 1 ∷ at 1 65535 0 ∷ [])) []
     ∷ says (tableRecord 0 ++ cellRecord 1 1 1) "refused 11 at 3\n" ∷ judged (tableRecord 0 ++ cellRecord 0 1 1) 0 0
+    ∷ []
+
+-- Document 02, "A4": the records of a wide file, where they differ
+abbrev flaggedBytes : Total → List ℕ
+flaggedBytes t = cond (t .saturated) 1 0 ∷ pair (t .amount / 65536) ++ pair (t .amount % 65536)
+
+abbrev wideTableRecord : ℕ → List ℕ
+wideTableRecord k = text "TW" ++ (k ∷ [])
+
+abbrev wideCellRecord : ℕ → ℕ → Total → List ℕ
+wideCellRecord n k t = text "CL" ++ pair n ++ pair k ++ flaggedBytes t
+
+abbrev wideOperationRecord : ℕ → ℕ → Total → List ℕ
+wideOperationRecord kind k t = text "OP" ++ (kind ∷ []) ++ pair k ++ flaggedBytes t
+
+-- A run in full, file in and text out: the document's own with totals round the wide ceiling, then an add to a pinned total below it, and an add of
+-- a pinned amount
+unfoldable pub wideInFull : Contents
+wideInFull =
+    job (table 8 (wideAt 7 8 (flagged 3) ∷ []))
+    (wideOperation 4 1 (plain 40)
+    ∷ wideOperation 4 9 (plain 25)
+    ∷ wideOperation 4 1 (plain 4294967260)
+    ∷ wideOperation 4 8 (plain 4)
+    ∷ wideOperation 4 9 (flagged 5)
+    ∷ [])
+    (0 ∷ 1 ∷ 2 ∷ 0 ∷ 1 ∷ 2 ∷ 1 ∷ 1 ∷ 2 ∷ 2 ∷ 1 ∷ 0 ∷ 3 ∷ 3 ∷ 4 ∷ 4 ∷ 4 ∷ [])
+
+unfoldable pub wideInFullFile : List ℕ
+wideInFullFile =
+    (0x54 ∷ 0x57 ∷ 0x03 ∷ [])
+    ++ (0x43 ∷ 0x4C ∷ 0x00 ∷ 0x07 ∷ 0x00 ∷ 0x08 ∷ 0x01 ∷ 0x00 ∷ 0x00 ∷ 0x00 ∷ 0x03 ∷ [])
+    ++ (0x4F ∷ 0x50 ∷ 0x04 ∷ 0x00 ∷ 0x01 ∷ 0x00 ∷ 0x00 ∷ 0x00 ∷ 0x00 ∷ 0x28 ∷ [])
+    ++ (0x4F ∷ 0x50 ∷ 0x04 ∷ 0x00 ∷ 0x09 ∷ 0x00 ∷ 0x00 ∷ 0x00 ∷ 0x00 ∷ 0x19 ∷ [])
+    ++ (0x4F ∷ 0x50 ∷ 0x04 ∷ 0x00 ∷ 0x01 ∷ 0x00 ∷ 0xFF ∷ 0xFF ∷ 0xFF ∷ 0xDC ∷ [])
+    ++ (0x4F ∷ 0x50 ∷ 0x04 ∷ 0x00 ∷ 0x08 ∷ 0x00 ∷ 0x00 ∷ 0x00 ∷ 0x00 ∷ 0x04 ∷ [])
+    ++ (0x4F ∷ 0x50 ∷ 0x04 ∷ 0x00 ∷ 0x09 ∷ 0x01 ∷ 0x00 ∷ 0x00 ∷ 0x00 ∷ 0x05 ∷ [])
+    ++ scheduleRecord (wideInFull .schedule)
+
+-- "`roomrun` lists either width, a wide pinned total or amount as `atleast N`."
+unfoldable pub wideInFullText : List ℕ
+wideInFullText =
+    text "rows 5 done 5 lost 2 idle 1\n"
+    ++ text "row 0 add 1 40 inserted 0\n"
+    ++ text "row 1 add 9 25 inserted 0\n"
+    ++ text "row 2 add 1 4294967260 capped 40\n"
+    ++ text "row 3 add 8 4 changed atleast 3\n"
+    ++ text "row 4 add 9 atleast 5 capped 25\n"
+    ++ text "log 0 2 1 3 4\n"
+    ++ text "cell 4 1 atleast 4294967295\n"
+    ++ text "cell 5 9 atleast 30\n"
+    ++ text "cell 7 8 atleast 7\n"
+
+abbrev roomWith : Total → List ℕ
+roomWith t = table 8 (wideAt 4 1 t ∷ [])
+
+-- one operation on such a room or on an empty table, as above
+abbrev onWide : List ℕ → ℕ → Total → ℕ → Case
+onWide cells op t answered = inWide (leaves (job cells (op ∷ []) (0 ∷ 0 ∷ [])) (left (roomWith t) (answered ∷ []) (0 ∷ []) 1 0 0))
+
+-- one word as cell 4, and the words of rows, that are turned away, these at a place
+abbrev noCell : ℕ → Case
+noCell w = inWide (refused (table 8 (record { number = 4; word = w } ∷ [])) 4 4)
+
+abbrev noRow : List ℕ → ℕ → Case
+noRow operations place = inWide (turnedAway (length operations) (length operations) (job (table 8 []) operations []) 5 place)
+
+unfoldable pub wideTables : List Case
+wideTables =
+    -- "Adding sums the totals, holds at 4,294,967,295, and sets the flag if either had it or the ceiling is reached.": below the ceiling, at it and
+    -- past it, and with flags
+    sumsTo (plain 4294967293) (plain 1) (plain 4294967294) false ∷ sumsTo (plain 65535) (plain 65535) (plain 131070) false
+    ∷ sumsTo (plain 4294967294) (plain 1) (flagged 4294967295) true ∷ sumsTo (plain 4294967294) (plain 2) (flagged 4294967295) true
+    ∷ sumsTo (plain 4294967294) (plain 4294967294) (flagged 4294967295) true
+    ∷ sumsTo (flagged 3) (plain 4) (flagged 7) false ∷ sumsTo (plain 3) (flagged 4) (flagged 7) true ∷ sumsTo (flagged 3) (flagged 4) (flagged 7) false
+    ∷ sumsTo (flagged 0) (plain 0) (flagged 0) false ∷ sumsTo (plain 0) (flagged 0) (flagged 0) true
+    ∷ sumsTo (flagged 4294967294) (plain 1) (flagged 4294967295) false ∷ sumsTo (flagged 4294967295) (flagged 4294967295) (flagged 4294967295) false
+    -- "key in bits 48 to 63, pinned flag in bit 32, total in bits 0 to 31"; "amount in bits 0 to 31, flag in 32, key in 33 to 48, kind in 49 to 56";
+    -- "code × 2^33 + flag × 2^32 + total": words as numbers, in which add (1, 5), add (1, pinned 2) and remove 1 change a cell
+    ∷ inWide
+    (leaves
+    (job (0 ∷ 0 ∷ 0 ∷ 0 ∷ 0x0001000000000028 ∷ 0 ∷ 0 ∷ 0 ∷ []) (0x0008000200000005 ∷ 0x0008000300000002 ∷ 0x000A000200000000 ∷ []) (0 ∷ 0 ∷ 1 ∷ 1 ∷ []))
+    (left (0 ∷ 0 ∷ 0 ∷ 0 ∷ 0x000100010000002F ∷ 0 ∷ 0 ∷ 0 ∷ []) (0x0000000800000028 ∷ 0x000000100000002D ∷ 0 ∷ []) (0 ∷ 1 ∷ 9 ∷ []) 2 0 0))
+    ∷ inWide
+    (leaves (job (0 ∷ 0 ∷ 0 ∷ 0 ∷ 0x000100010000002F ∷ 0 ∷ 0 ∷ 0 ∷ []) (0x000A000200000000 ∷ []) (0 ∷ 0 ∷ []))
+    (left (0 ∷ 0 ∷ 0 ∷ 0 ∷ 0xFFFF000000000000 ∷ 0 ∷ 0 ∷ 0 ∷ []) (0x0000000B0000002F ∷ []) (0 ∷ []) 1 0 0))
+    -- the wide run in full
+    ∷ inWide
+    (leaves wideInFull
+    (left (table 8 (wideAt 4 1 (flagged 4294967295) ∷ wideAt 5 9 (flagged 30) ∷ wideAt 7 8 (flagged 7) ∷ []))
+    (wideAnswer 2 (plain 0) ∷ wideAnswer 2 (plain 0) ∷ wideAnswer 8 (plain 40) ∷ wideAnswer 4 (flagged 3) ∷ wideAnswer 8 (plain 25) ∷ [])
+    (0 ∷ 2 ∷ 1 ∷ 3 ∷ 4 ∷ []) 5 2 1))
+    ∷ writes wideInFullFile wideInFullText
+    -- "An add that turns a true total into a pinned one now finishes capped" ("A1"): at the ceiling, and by a pinned amount; from a pinned total none
+    -- does, and no update or insertion
+    ∷ onWide (roomWith (plain 40)) (wideOperation 4 1 (plain 4294967254)) (plain 4294967294) (wideAnswer 4 (plain 40))
+    ∷ onWide (roomWith (plain 40)) (wideOperation 4 1 (plain 4294967255)) (flagged 4294967295) (wideAnswer 8 (plain 40))
+    ∷ onWide (roomWith (plain 3)) (wideOperation 4 1 (flagged 4)) (flagged 7) (wideAnswer 8 (plain 3))
+    ∷ onWide (roomWith (flagged 3)) (wideOperation 4 1 (plain 4)) (flagged 7) (wideAnswer 4 (flagged 3))
+    ∷ onWide (roomWith (plain 40)) (wideOperation 3 1 (flagged 4)) (flagged 4) (wideAnswer 4 (plain 40))
+    ∷ onWide (table 8 []) (wideOperation 4 1 (flagged 4)) (flagged 4) (wideAnswer 2 (plain 0))
+    -- a flag is part of the word that a swap compares: room 1 has 7 before the second add and after it, true and then pinned
+    ∷ inWide
+    (leaves (job (roomWith (plain 7)) (wideOperation 4 1 (plain 1) ∷ wideOperation 4 1 (flagged 0) ∷ []) (0 ∷ 1 ∷ 1 ∷ 0 ∷ 0 ∷ 0 ∷ []))
+    (left (roomWith (flagged 8)) (wideAnswer 4 (flagged 7) ∷ wideAnswer 8 (plain 7) ∷ []) (1 ∷ 0 ∷ []) 2 1 0))
+    -- "It refuses an unflagged 4,294,967,295, a stray bit, or a flag where the total or amount must be 0, with 4 in a cell and 5 in a row"
+    ∷ noCell (wideCell 1 (plain 4294967295)) ∷ noCell (wideCell 1 (plain 5) + 2 ^ 33) ∷ noCell (wideCell 1 (plain 5) + 2 ^ 47)
+    ∷ noCell (wideCell 65535 (flagged 0)) ∷ noCell (wideCell 0 (flagged 0)) ∷ noCell (wideCell 65535 (plain 1)) ∷ noCell (wideCell 0 (plain 1))
+    ∷ noCell (2 ^ 33) ∷ noCell (2 ^ 47)
+    ∷ inWide (begins (table 8 (wideAt 4 1 (flagged 4294967295) ∷ wideAt 5 9 (flagged 0) ∷ wideAt 6 65534 (plain 4294967294) ∷ wideAt 0 65535 (plain 0) ∷ [])) [])
+    ∷ noRow (wideOperation 4 1 (plain 4294967295) ∷ []) 0 ∷ noRow (wideOperation 1 1 (flagged 0) ∷ []) 0 ∷ noRow (wideOperation 5 1 (flagged 0) ∷ []) 0
+    ∷ noRow (wideOperation 1 1 (plain 1) ∷ []) 0 ∷ noRow (wideOperation 5 1 (plain 1) ∷ []) 0
+    ∷ noRow (wideOperation 1 1 (plain 0) ∷ wideOperation (2 ^ 8 + 1) 1 (plain 0) ∷ []) 1 ∷ noRow (wideOperation (2 ^ 14 + 1) 1 (plain 0) ∷ []) 0
+    ∷ noRow (wideOperation 0 1 (plain 0) ∷ []) 0 ∷ noRow (wideOperation 6 1 (plain 0) ∷ []) 0
+    ∷ noRow (wideOperation 4 0 (plain 1) ∷ []) 0 ∷ noRow (wideOperation 4 65535 (plain 1) ∷ []) 0
+    ∷ inWide
+    (begins (table 8 [])
+    (wideOperation 2 1 (flagged 0) ∷ wideOperation 3 1 (flagged 4294967295) ∷ wideOperation 4 65534 (plain 4294967294) ∷ wideOperation 5 1 (plain 0) ∷ []))
+    -- the other refusals, and two at once
+    ∷ inWide (refused (table 12 []) 1 0) ∷ inWide (turnedAway 0 1 (job (table 8 []) (wideOperation 1 1 (plain 0) ∷ []) []) 3 0)
+    ∷ inWide (turnedAway 0 0 (job (roomWith (plain 1)) [] (0 ∷ [])) 6 0) ∷ inWide (turnedAway 1 1 (job (roomWith (plain 4294967295)) (0 ∷ []) []) 4 4)
+    ∷ inWide (refused (table 8 (wideAt 4 1 (plain 40) ∷ wideAt 5 1 (flagged 40) ∷ [])) 7 5) ∷ inWide (refused (table 8 (wideAt 5 9 (flagged 25) ∷ [])) 8 5)
+    -- "Wide files begin with TW for TB, and totals and amounts become a flag byte, 0 or 1, then four bytes."
+    ∷ inWide
+    (reads
+    (wideTableRecord 1 ++ wideCellRecord 0 258 (flagged 0x03040506) ++ wideCellRecord 1 65535 (plain 4294967295)
+    ++ wideOperationRecord 255 258 (flagged 0x03040506) ++ scheduleRecord (7 ∷ []))
+    (job (0x0102000103040506 ∷ 0xFFFF0000FFFFFFFF ∷ []) (0x01FE020503040506 ∷ []) (7 ∷ [])))
+    ∷ inWide (judged (tableRecord 3) 9 0) ∷ judged (wideTableRecord 3) 9 0
+    -- "another flag byte with 11": in a cell and in a row, where the record is whole (10), and before it is one too many (2)
+    ∷ says (wideTableRecord 3 ++ text "CL" ++ (0 ∷ 4 ∷ 0 ∷ 1 ∷ 2 ∷ 0 ∷ 0 ∷ 0 ∷ 5 ∷ [])) "refused 11 at 3\n"
+    ∷ says (wideTableRecord 3 ++ wideOperationRecord 1 1 (plain 0) ++ text "OP" ++ (4 ∷ 0 ∷ 1 ∷ 255 ∷ 0 ∷ 0 ∷ 0 ∷ 5 ∷ [])) "refused 11 at 13\n"
+    ∷ says (wideTableRecord 3 ++ text "OP" ++ (4 ∷ 0 ∷ 1 ∷ 2 ∷ 0 ∷ 0 ∷ 0 ∷ [])) "refused 10 at 3\n"
+    ∷ inWide (judged (wideTableRecord 3 ++ rounds 64 (wideOperationRecord 1 1 (plain 0)) ++ text "OP" ++ (4 ∷ 0 ∷ 1 ∷ 2 ∷ 0 ∷ 0 ∷ 0 ∷ 5 ∷ [])) 11 643)
+    ∷ inWide (judged (wideTableRecord 3 ++ rounds 65 (wideOperationRecord 1 1 (plain 0))) 2 643)
+    -- what the run refuses is passed on to it
+    ∷ says (wideTableRecord 3 ++ wideCellRecord 6 1 (plain 4294967295)) "refused 4 at 6\n"
+    ∷ says (wideTableRecord 3 ++ wideCellRecord 6 65535 (flagged 0)) "refused 4 at 6\n"
+    ∷ says (wideTableRecord 3 ++ wideOperationRecord 4 1 (plain 0) ++ wideOperationRecord 1 1 (flagged 0)) "refused 5 at 1\n"
+    ∷ says (wideTableRecord 3 ++ wideOperationRecord 4 1 (plain 4294967295)) "refused 5 at 0\n"
+    -- "a wide pinned total or amount as `atleast N`", and any other as its number
+    ∷ says (wideTableRecord 3 ++ wideCellRecord 4 1 (plain 65535) ++ wideCellRecord 5 65535 (plain 0) ++ wideCellRecord 6 65534 (flagged 0) ++ wideOperationRecord 3 1 (plain 65535))
+    "rows 1 done 0 lost 0 idle 0\nrow 0 update 1 65535 unfinished 0\nlog\ncell 4 1 65535\ncell 5 gone\ncell 6 65534 atleast 0\n"
     ∷ []
 
 -- FURTHER CASES, which the document does not work out. Each stands at an edge of one of its sentences, so that a definition that says
@@ -596,11 +759,11 @@ furtherRuns =
     ∷ []
 
 unfoldable pub cases : List Case
-cases = starred ++ capped ++ smallTables ++ furtherNumbers ++ furtherCalls ++ furtherFiles ++ furtherTexts ++ furtherRuns
+cases = starred ++ capped ++ smallTables ++ wideTables ++ furtherNumbers ++ furtherCalls ++ furtherFiles ++ furtherTexts ++ furtherRuns
 
 -- all that demand 3 asks of a run
-pub record Meets (j : Contents) : Type 0 where
-  pub accepted : resultOf j .outcome .number ≡ 0
-  pub only : T (onlyFindsAndAdds (operationsOf narrowWidth (j .operations)))
-  pub finished : resultOf j .outcome .done ≡ length (j .operations)
-  pub suffice : CellsSuffice (settingOf narrowWidth (length (j .cells))) (cellsOf narrowWidth (j .cells)) (operationsOf narrowWidth (j .operations))
+pub record Meets (wide : Bool) (j : Contents) : Type 0 where
+  pub accepted : resultOf wide j .outcome .number ≡ 0
+  pub only : T (onlyFindsAndAdds (operationsOf (widthOf wide) (j .operations)))
+  pub finished : resultOf wide j .outcome .done ≡ length (j .operations)
+  pub suffice : CellsSuffice (settingOf (widthOf wide) (length (j .cells))) (cellsOf (widthOf wide) (j .cells)) (operationsOf (widthOf wide) (j .operations))

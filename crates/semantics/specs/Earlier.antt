@@ -11,13 +11,13 @@ use Rattle.semantics.specs.declared.Refusal.{Refusal}
 use Rattle.semantics.specs.declared.Mark.{Mark}
 use Rattle.semantics.specs.declared.Position.{Position}
 use Rattle.semantics.specs.Words.{Width, isPowerFrom, homeIn, isLiveKey}
-use Rattle.semantics.specs.Narrow.{narrowWidth}
 use Rattle.semantics.specs.Refusals.{Condition, firstMet, callOf, tooMany, tooShort, wordsConditions, tableConditions, mostOperations, mostEntries}
 use Rattle.semantics.specs.Run.{Result, machine, acceptedResult, refusedResult}
 use Rattle.semantics.specs.Records.{Format, records, recordConditions}
-use Rattle.semantics.specs.RunFile.{Layout, narrowFile, row, byteAt, markAt, markCut, markWrong, bodyCut, oneTooMany, nextOf}
+use Rattle.semantics.specs.RunFile.{Layout, layoutOf, row, byteAt, markAt, markCut, markWrong, bodyCut, oneTooMany, nextOf}
 use Rattle.semantics.specs.RunFile.{Contents, start, mostCells, sliceConditions, fileTooLong, load, Reading, acceptedReading, refusedReading}
-use Rattle.semantics.specs.Listing.{narrowText, refusalText}
+use Rattle.semantics.specs.Listing.{refusalText}
+use Rattle.semantics.specs.Widths.{widthOf, textOf}
 use Rattle.semantics.specs.Response.{listed}
 
 -- document 01: "Their number c is a power of two from 8 to 4,096."; "TB: one byte k, 3 to 12"
@@ -76,12 +76,12 @@ module _ (allowed : ℕ → Bool) where
           let refusal : Refusal = readerRefusalBy (length cells) (length operations) (length schedule) in
           cond (eqb (refusal .number) 0) (acceptedReading contentsBy cells operations schedule) (refusedReading refusal cells operations schedule)
 
-  -- in place of `Response.response`
-  unfoldable pub responseBy : List ℕ → List ℕ
-  responseBy file =
-      let refusal : Refusal = readerRefusalBy narrowFile file mostCells mostOperations mostEntries in
-      let h : Contents = contentsBy narrowFile file in
+  -- in place of `Response.responseIn`
+  unfoldable pub responseBy : Bool → List ℕ → List ℕ
+  responseBy wide file =
+      let refusal : Refusal = readerRefusalBy (layoutOf wide) file mostCells mostOperations mostEntries in
+      let h : Contents = contentsBy (layoutOf wide) file in
       let slice : List ℕ = replicate mostOperations 0 in
       cond (eqb (refusal .number) 0)
-      (listed narrowWidth narrowText (h .operations) (resultBy narrowWidth (h .cells) (h .operations) (h .schedule) slice slice))
+      (listed (widthOf wide) (textOf wide) (h .operations) (resultBy (widthOf wide) (h .cells) (h .operations) (h .schedule) slice slice))
       (refusalText (refusal .number) (refusal .place))

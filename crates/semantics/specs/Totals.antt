@@ -35,7 +35,8 @@ unfoldable pub anySaturated : List Total → Bool
 anySaturated ts = anyOf (λ t. t .saturated) ts
 
 -- "they and the starting total are summed as whole numbers before the sum is held": a total with others added, in words of its own beside
--- `plusAt`; with none it stays as it is
+-- `plusAt`; with none it stays as it is. "the sum is held at the width's ceiling, and the total is pinned exactly if the sum reaches it or the
+-- starting total or an added amount was pinned" (document 02, "A4")
 unfoldable pub sumAt : ℕ → Total → List Total → Total
 sumAt ceiling t [] = t
 sumAt ceiling t (a ∷ more) =

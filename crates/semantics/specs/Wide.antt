@@ -1,4 +1,4 @@
--- Must be believed of the wide width alone: what `run` and `report` promise is of the narrow one.
+-- Must be believed of the wide width: what `run_wide` promises rests on it, and what `report` promises of wide files.
 -- Document 02, "A4": the layouts of the wide width, whose totals have 32 bits and a flag.
 -- Assumes nothing.
 use Prim.Native.Nat.{ℕ, _+_, _*_, _/_, _%_, _^_}

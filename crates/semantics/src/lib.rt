@@ -16,7 +16,7 @@ pub const MOST_BYTES: usize = 65535;
 pub const MOST_TEXT: usize = 98304;
 
 // The same of the wide width, whose totals have longer texts.
-pub const MOST_WIDE_TEXT: usize = 151552;
+pub const MOST_WIDE_TEXT: usize = 148228;
 
 // A total: an amount, and whether it is saturated (document 01: pinned), so that it stands for at least
 // that much.

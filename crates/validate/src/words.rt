@@ -5,40 +5,31 @@
 use packing::either::above_kind;
 use packing::either::key_in;
 use packing::either::kind_in;
-use packing::either::total_in;
 use semantics::Refusal;
-use semantics::Total;
 ghost use mathlib.Core.Path.{_≡_};
-ghost use mathlib.Core.Bool.{true, not, _||_, _&&_};
-ghost use Prim.Native.Nat.{_+_, _<_};
+ghost use mathlib.Core.Bool.{true, cond, not, _||_, _&&_};
+ghost use Prim.Native.Nat.{_+_, _*_, _/_, _%_, _^_, _<_};
 ghost use lib.Dec.{eqb, leb};
 ghost use lib.ListN.{length, getD};
 ghost use Rattle.semantics.specs.Basics.{firstBelow};
 ghost use Rattle.semantics.specs.Words.{takesAmount, isKind, isLiveKey};
 ghost use Rattle.semantics.specs.Narrow.{cellAllowed};
-ghost use Rattle.semantics.specs.Wide.{isWideTotal, isNothing, wideCellAllowed};
+ghost use Rattle.semantics.specs.Wide.{flaggedIn, isWideTotal, wideKeyOf, wideCellAllowed};
 ghost use Rattle.semantics.specs.Lent.{cellsAllowed, operationAllowedIn, lentWords};
 ghost use Rattle.semantics.specs.Refusals.{firstMet};
 
-// A wide total: any with the flag, and one without it that the thirty-two bits do not hold at.
-fn is_wide_total(t: Total) -> bool
-    ensures { λ r. ⌜ r ≡ isWideTotal t ⌝ }
+// What a wide word has below its key: no more than a total and its flag, and any total but the largest
+// without the flag. Nearly every total is below that one, so this is asked first.
+fn is_flagged_total(bits: u64) -> bool
+    ensures { λ r. ⌜ r ≡ (eqb (bits / 2 ^ 33) 0 && isWideTotal (flaggedIn bits)) ⌝ }
 {
-    let amount = t.amount;
-    if t.saturated {
+    if bits < 4294967295 {
         return true;
     }
-    amount < 4294967295
-}
-
-// Neither an amount nor a flag.
-fn is_nothing(t: Total) -> bool
-    ensures { λ r. ⌜ r ≡ isNothing t ⌝ }
-{
-    if t.saturated {
+    if bits < 4294967296 {
         return false;
     }
-    t.amount == 0
+    bits < 8589934592
 }
 
 // 4: whether a cell may start with word w: a live key with any total, the empty word, or a tombstone.
@@ -54,20 +45,23 @@ fn cell_allowed(w: u32) -> bool
     w == packing::narrow::TOMBSTONE
 }
 
+// Whether a wide cell has a live key or is the tombstone. This is asked of the whole word, which is one
+// test: the words of the live keys are those between the words of key 0 and the tombstone.
+fn is_live_or_tombstone(w: u64) -> bool
+    ensures { λ r. ⌜ r ≡ (isLiveKey (wideKeyOf w) || eqb w (65535 * 2 ^ 48)) ⌝ }
+{
+    0xffffffffffff < w && w <= packing::wide::WIDE_TOMBSTONE
+}
+
 // A wide cell likewise; and the fifteen bits between its key and its flag are 0, and its total is a wide one.
+// All that is below the key is taken out at once; the tombstone has 0 there, which is a total.
 fn wide_cell_allowed(w: u64) -> bool
     ensures { λ r. ⌜ r ≡ wideCellAllowed w ⌝ }
 {
-    if (w >> 33) & 0x7fff == 0 {
-        let total = packing::wide::wide_total(w);
-        if is_wide_total(total) {
-            if packing::is_live_key(packing::wide::wide_key(w)) {
-                return true;
-            }
-            return is_nothing(total);
-        }
+    if is_live_or_tombstone(w) {
+        return is_flagged_total(w & 0xffffffffffff);
     }
-    false
+    w == 0
 }
 
 // A table is lent as two slices, of which one is empty. The first test is the same for every cell, so that
@@ -127,17 +121,27 @@ fn fields_allowed(above: u32, kind: u8, key: u16, nothing: bool) -> bool
     false
 }
 
+// The amount of an operation as it lies in its word, with the flag of a wide one above it.
+fn amount_bits(flagged: bool, w: u64) -> u64
+    ensures { λ r. ⌜ r ≡ cond flagged (w % 2 ^ 33) (w % 65536) ⌝ }
+{
+    if flagged {
+        return w & 0x1ffffffff;
+    }
+    w & 0xffff
+}
+
 // Of either width: a narrow amount is a total of the wide width, too.
 fn operation_allowed(flagged: bool, w: u64) -> bool
     ensures { λ r. ⌜ r ≡ operationAllowedIn flagged w ⌝ }
 {
-    let amount = total_in(w, flagged);
-    if is_wide_total(amount) {
+    let amount = amount_bits(flagged, w);
+    if is_flagged_total(amount) {
         return fields_allowed(
             above_kind(w, flagged),
             kind_in(w, flagged),
             key_in(w, flagged),
-            is_nothing(amount),
+            amount == 0,
         );
     }
     false

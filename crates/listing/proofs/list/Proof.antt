@@ -1,41 +1,41 @@
--- `listing::list` meets its contract: beside the narrow slices it lends empty ones.
+-- `listing::list` meets its contract: the text is written if it fits.
 -- Assumes nothing.
-use Rattle.listing.proofs.Listed.{narrow-alone}
+use native.Mathlib.Omega.{arith}
+use Rattle.text.proofs.Writing.{handed-whole, handed-not}
 use borrow.Author.Needs.{needs}
 use Rattle.listing.proofs.list.Statement.{statement}
 use Rattle.listing.proofs.list.Tie as tie
 
 -- the contexts that the facts look back to
-abbrev after-list-lent : tie.After-slice-known2 → tie.After-list-lent
-after-list-lent c = c .before .before
+abbrev then1 : tie.After-put-listing → tie.Then1
+then1 c = c .before .before
 
-abbrev start : tie.After-list-lent → tie.Start
-start c = c .before .before .before .before .before .before .before .before .before
+abbrev after-put-listing : tie.After-slice-known2 → tie.After-put-listing
+after-put-listing c = c .before .before
 
-slice-aggregate-list-lent : tie.Need-slice-aggregate-list-lent
-slice-aggregate-list-lent c = search needs
+abbrev start : tie.After-has-room → tie.Start
+start c = c .before .before .before .before .before .before .before .before
 
-slice-aggregate-list-lent-2 : tie.Need-slice-aggregate-list-lent-2
-slice-aggregate-list-lent-2 c = search needs
+has-room-requires : tie.Need-has-room-requires
+has-room-requires c κs = search needs
 
-list-lent-requires : tie.Need-list-lent-requires
-list-lent-requires c κs = search needs
+put-listing-requires : tie.Need-put-listing-requires
+put-listing-requires c κs = search needs
 
 same-length : tie.Need-same-length
 same-length c = search needs
 
 returns : tie.Need-returns
 returns c =
-    let call = after-list-lent c in
-    let a = start call .args in
-    narrow-alone (a .outcome) (a .operations .now) (a .answers .now) (a .log .now) (a .cells .now) (a .out .now) (call .list-lent .ensures)
+    let put = after-put-listing c in
+    let test = then1 put in
+    -- what owning the slice tells: it is shorter than the largest usize
+    let short = start (test .before) .good .1 .1 .1 .1 .1 .1 .1 .1 .0 in
+    handed-whole _ _ (test .before .has-room .ensures) (test .if1 .taken) (omega (arith, short)) (put .put-listing .ensures)
+
+returns-2 : tie.Need-returns-2
+returns-2 c = handed-not _ _ (c .before .has-room .ensures) (c .if1 .left)
 
 pub list-spec : {M : Type 1} → statement M
 list-spec =
-    tie.close
-    (tie.spec
-    slice-aggregate-list-lent
-    slice-aggregate-list-lent-2
-    list-lent-requires
-    same-length
-    returns)
+    tie.close (tie.spec has-room-requires put-listing-requires same-length returns returns-2)

@@ -2,6 +2,7 @@
 -- Assumes nothing.
 use native.Mathlib.Omega.{arith}
 use borrow.Author.Needs.{needs}
+use Rattle.semantics.specs.Widths.{mostTextOf}
 use Rattle.roomrun.proofs.main.Statement.{statement}
 use Rattle.roomrun.proofs.main.Tie as tie
 
@@ -21,6 +22,7 @@ slice-aggregate-respond-2 : tie.Need-slice-aggregate-respond-2
 slice-aggregate-respond-2 c = search needs
 
 respond-requires : tie.Need-respond-requires
+unfolding mostTextOf
 respond-requires c κs = omega arith
 
 array-share-prefix-text : tie.Need-array-share-prefix-text

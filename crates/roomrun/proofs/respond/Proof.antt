@@ -10,6 +10,8 @@ use lib.ListN.{length}
 use borrow.Author.Needs.{needs}
 use Rattle.semantics.specs.Run.{over}
 use Rattle.semantics.specs.Text.{Handed, handed}
+use Rattle.semantics.specs.Response.{isWide}
+use Rattle.semantics.proofs.Widths.{most-wide}
 use Rattle.roomrun.proofs.respond.Statement.{statement}
 use Rattle.roomrun.proofs.respond.Tie as tie
 
@@ -46,7 +48,7 @@ returns c =
     let report = after-report c in
     let start = start-of-report report in
     let said = report .report .ensures in
-    (whole _ _ (said .0) (said .1 .0 (start .pre)), said .1 .1)
+    (whole _ _ (said .0) (said .1 .0 (omega (arith, start .pre, most-wide (isWide (start .args .file .now))))), said .1 .1)
 
 pub respond-spec : {M : Type 1} → statement M
 respond-spec = tie.close (tie.spec report-requires same-length returns)

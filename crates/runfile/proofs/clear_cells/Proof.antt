@@ -6,7 +6,7 @@ use mathlib.Core.Bool.{Bool}
 use mathlib.Core.Logic.{⊎-elim}
 use native.Mathlib.Omega.{arith}
 use lib.ListN.{length}
-use Rattle.runfile.specs.Stored.{lentCells}
+use Rattle.semantics.specs.Widths.{ofWidth}
 use Rattle.runfile.proofs.Zeros.{Cleared, cleared-starts, cleared-long, next-inside, cleared-again, cleared-ends}
 use borrow.Author.Needs.{needs}
 use Rattle.runfile.proofs.clear_cells.Statement.{statement}
@@ -32,7 +32,7 @@ abbrev entered : tie.After-loop Inv-loop μ-loop → tie.Start Inv-loop μ-loop
 entered c = c .before .before
 
 inside : (c : tie.In-loop Inv-loop μ-loop) {w : Bool} → start c .args .flagged ≡ w
-    → let at = c .before .loop in at .i < length (lentCells w (at .narrow) (at .wide))
+    → let at = c .before .loop in at .i < length (ofWidth w (at .narrow) (at .wide))
 inside c e = next-inside (c .before .loop .inv .0) (start c .pre) (c .loop-test .taken) e
 
 in-wide : (c : tie.Then1 Inv-loop μ-loop) → let at = wide-turn c .loop in at .i < length (at .wide)

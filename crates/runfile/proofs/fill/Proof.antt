@@ -9,7 +9,7 @@ use lib.ListN.{length}
 use Rattle.semantics.specs.Records.{records}
 use Rattle.semantics.specs.RunFile.{Layout, layoutOf, Contents, start, runFile, load}
 use Rattle.semantics.proofs.Records.{judgement}
-use Rattle.runfile.specs.Stored.{lentCells}
+use Rattle.semantics.specs.Widths.{ofWidth}
 use Rattle.semantics.proofs.Marks.{records-accepted}
 use Rattle.runfile.proofs.Refused.{slices-fit}
 use Rattle.runfile.proofs.Stores.{both-long}
@@ -20,9 +20,9 @@ use Rattle.runfile.proofs.fill.Tie as tie
 
 abbrev Inv-loop : tie.InvT-loop
 Inv-loop file flagged narrow₀ wide₀ operations₀ schedule₀ position₀ narrow wide operations schedule position =
-    Filling (layoutOf flagged) file (record { cells = lentCells flagged narrow₀ wide₀; operations = operations₀; schedule = schedule₀ }) position
-    (record { cells = lentCells flagged narrow wide; operations = operations; schedule = schedule })
-    × (lentCells (not flagged) narrow wide ≡ lentCells (not flagged) narrow₀ wide₀)
+    Filling (layoutOf flagged) file (record { cells = ofWidth flagged narrow₀ wide₀; operations = operations₀; schedule = schedule₀ }) position
+    (record { cells = ofWidth flagged narrow wide; operations = operations; schedule = schedule })
+    × (ofWidth (not flagged) narrow wide ≡ ofWidth (not flagged) narrow₀ wide₀)
 
 abbrev μ-loop : tie.MeasureT-loop
 μ-loop file flagged narrow₀ wide₀ operations₀ schedule₀ position₀ narrow wide operations schedule position =
@@ -41,7 +41,7 @@ layout c = layoutOf (c .args .flagged)
 abbrev lent : tie.Start Inv-loop μ-loop → Contents
 lent c =
     record {
-      cells = lentCells (c .args .flagged) (c .args .narrow .now) (c .args .wide .now);
+      cells = ofWidth (c .args .flagged) (c .args .narrow .now) (c .args .wide .now);
       operations = c .args .operations .now;
       schedule = c .args .schedule .now;
     }
@@ -78,7 +78,7 @@ wide c = c .store .last .1 .1 .1 .1 .1 .1 .0
 abbrev left : tie.After-store Inv-loop μ-loop → Contents
 left c =
     record {
-      cells = lentCells (begun (turn c) .args .flagged) (narrow c) (wide c);
+      cells = ofWidth (begun (turn c) .args .flagged) (narrow c) (wide c);
       operations = c .store .last .1 .1 .1 .1 .1 .1 .1 .0;
       schedule = c .store .last .1 .1 .1 .1 .1 .1 .1 .1 .0;
     }
@@ -92,7 +92,7 @@ stores c = let t = turn c in
     turned (t .loop .inv .0) (accepted s) (room s) (past-of c .past .ensures) (c .store .ensures .0)
 
 kept : (c : tie.After-store Inv-loop μ-loop)
-    → let a = begun (turn c) .args in lentCells (not (a .flagged)) (narrow c) (wide c) ≡ lentCells (not (a .flagged)) (a .narrow .now) (a .wide .now)
+    → let a = begun (turn c) .args in ofWidth (not (a .flagged)) (narrow c) (wide c) ≡ ofWidth (not (a .flagged)) (a .narrow .now) (a .wide .now)
 kept c = c .store .ensures .1 ∙ turn c .loop .inv .1
 
 long : (c : tie.After-store Inv-loop μ-loop)
@@ -148,7 +148,7 @@ returns c = let d = stored-of (c .before) in
     let t = turn d in
     let s = begun t in (
       filling-ends (t .loop .inv .0) (accepted s) (room s) (past-of d .past .ensures) (d .store .ensures .0) (c .if1 .taken),
-      holds-counted (room s) (stores d),
+      (kept d, holds-counted (room s) (stores d)),
     )
 
 loop-less : tie.Need-loop-less Inv-loop μ-loop

@@ -7,7 +7,8 @@ use mathlib.Core.List.{List}
 use native.Mathlib.Omega.{arith}
 use lib.ListN.{length, set}
 use Rattle.semantics.specs.RunFile.{layoutOf, cellWordAt}
-use Rattle.runfile.specs.Stored.{lentCells, Rewritten}
+use Rattle.semantics.specs.Widths.{ofWidth}
+use Rattle.runfile.specs.Stored.{Rewritten}
 use borrow.Author.Needs.{needs}
 use Rattle.runfile.proofs.put_cell.Statement.{statement}
 use Rattle.runfile.proofs.put_cell.Tie as tie
@@ -26,18 +27,18 @@ start c = c .before .before .before
 whole : (s : tie.Start) {w : Bool} → s .args .flagged ≡ w → s .args .at + (layoutOf w .totalSize + 6) ≤ length (s .args .file .now)
 whole s e = subst (λ w. s .args .at + (layoutOf w .totalSize + 6) ≤ length (s .args .file .now)) e (s .pre .0)
 
-inside : (s : tie.Start) {w : Bool} → s .args .flagged ≡ w → s .args .cell < length (lentCells w (s .args .narrow .now) (s .args .wide .now))
-inside s e = subst (λ w. s .args .cell < length (lentCells w (s .args .narrow .now) (s .args .wide .now))) e (s .pre .1)
+inside : (s : tie.Start) {w : Bool} → s .args .flagged ≡ w → s .args .cell < length (ofWidth w (s .args .narrow .now) (s .args .wide .now))
+inside s e = subst (λ w. s .args .cell < length (ofWidth w (s .args .narrow .now) (s .args .wide .now))) e (s .pre .1)
 
 known : (s : tie.Start) {w : Bool} → s .args .flagged ≡ w → {narrow wide : List ℕ}
     → let a = s .args in
-    Rewritten w (a .narrow .now) (a .wide .now) narrow wide (set (lentCells w (a .narrow .now) (a .wide .now)) (a .cell) (cellWordAt (layoutOf w) (a .file .now) (a .at)))
+    Rewritten w (a .narrow .now) (a .wide .now) narrow wide (set (ofWidth w (a .narrow .now) (a .wide .now)) (a .cell) (cellWordAt (layoutOf w) (a .file .now) (a .at)))
     → Rewritten (a .flagged) (a .narrow .now) (a .wide .now) narrow wide
-    (set (lentCells (a .flagged) (a .narrow .now) (a .wide .now)) (a .cell) (cellWordAt (layoutOf (a .flagged)) (a .file .now) (a .at)))
+    (set (ofWidth (a .flagged) (a .narrow .now) (a .wide .now)) (a .cell) (cellWordAt (layoutOf (a .flagged)) (a .file .now) (a .at)))
 known s e {narrow} {wide} r =
     let a = s .args in
     subst
-    (λ w. Rewritten w (a .narrow .now) (a .wide .now) narrow wide (set (lentCells w (a .narrow .now) (a .wide .now)) (a .cell) (cellWordAt (layoutOf w) (a .file .now) (a .at))))
+    (λ w. Rewritten w (a .narrow .now) (a .wide .now) narrow wide (set (ofWidth w (a .narrow .now) (a .wide .now)) (a .cell) (cellWordAt (layoutOf w) (a .file .now) (a .at))))
     (sym e) r
 
 wide-cell-at-requires : tie.Need-wide-cell-at-requires

@@ -7,7 +7,7 @@ use native.Mathlib.Omega.{arith}
 use lib.ListN.{length, length-take, length-drop}
 use Rattle.semantics.specs.declared.Mark.the-variants.{Cell, Operation, Schedule}
 use Rattle.semantics.specs.RunFile.{Layout, layoutOf, Contents, byteAt, pairAt}
-use Rattle.runfile.specs.Stored.{lentCells}
+use Rattle.semantics.specs.Widths.{ofWidth}
 use Rattle.semantics.proofs.Marks.{Sound, sound}
 use Rattle.runfile.proofs.Judged.{is-known, whole-of, size-small, inside, few, short}
 use Rattle.runfile.proofs.Onward.{table-size, cell-below, entries-end}
@@ -21,7 +21,7 @@ abbrev layout : tie.Start → Layout
 layout c = layoutOf (c .args .flagged)
 
 abbrev cells : tie.Start → List ℕ
-cells c = lentCells (c .args .flagged) (c .args .narrow .now) (c .args .wide .now)
+cells c = ofWidth (c .args .flagged) (c .args .narrow .now) (c .args .wide .now)
 
 abbrev slices : tie.Start → Contents
 slices c = record { cells = cells c; operations = c .args .operations .now; schedule = c .args .schedule .now }

@@ -3,7 +3,7 @@
 use mathlib.Core.Path.{ap₂, _∙_}
 use native.Mathlib.Omega.{arith}
 use Rattle.semantics.specs.Wide.{wideCellWord}
-use Rattle.semantics.proofs.Parts.{part-agrees, inner-agrees, pair-agrees, flagged-agrees}
+use Rattle.semantics.proofs.Parts.{part-agrees, pair-agrees}
 use borrow.Author.Needs.{needs}
 use Rattle.runfile.proofs.wide_cell_at.Statement.{statement}
 use Rattle.runfile.proofs.wide_cell_at.Tie as tie
@@ -13,7 +13,7 @@ abbrev start : tie.After-pair-at → tie.Start
 start c = c .before .before .before
 
 abbrev after-pair-at : tie.After-wide-cell-word → tie.After-pair-at
-after-pair-at c = c .before .before .before
+after-pair-at c = c .before .before
 
 add-record : tie.Need-add-record
 add-record c = search needs
@@ -30,17 +30,11 @@ part-record-end c = search needs
 pair-at-requires : tie.Need-pair-at-requires
 pair-at-requires c κs = search needs
 
-sub-total-of : tie.Need-sub-total-of
-sub-total-of c = search needs
+add-total-at : tie.Need-add-total-at
+add-total-at c = search needs
 
-part-total-of-start : tie.Need-part-total-of-start
-part-total-of-start c = search needs
-
-part-total-of-end : tie.Need-part-total-of-end
-part-total-of-end c = search needs
-
-total-of-requires : tie.Need-total-of-requires
-total-of-requires c κs = search needs
+total-at-requires : tie.Need-total-at-requires
+total-at-requires c κs = search needs
 
 wide-cell-word-requires : tie.Need-wide-cell-word-requires
 wide-cell-word-requires c κs = search needs
@@ -48,10 +42,8 @@ wide-cell-word-requires c κs = search needs
 returns : tie.Need-returns
 returns c =
     let a = start (after-pair-at c) .args in
-    let same = part-agrees 11 (a .file .now) (a .at) in
-    let total = flagged-agrees (inner-agrees same 5 6 (omega arith)) in
-    c .wide-cell-word .ensures
-    ∙ ap₂ wideCellWord (after-pair-at c .pair-at .ensures ∙ pair-agrees same 4 (omega arith)) (c .before .total-of .ensures ∙ total)
+    let key = after-pair-at c .pair-at .ensures ∙ pair-agrees (part-agrees 6 (a .file .now) (a .at)) 4 (omega arith) in
+    c .wide-cell-word .ensures ∙ ap₂ wideCellWord key (c .before .total-at .ensures)
 
 pub wide-cell-at-spec : {M : Type 1} → statement M
 wide-cell-at-spec =
@@ -62,9 +54,7 @@ wide-cell-at-spec =
     part-record-start
     part-record-end
     pair-at-requires
-    sub-total-of
-    part-total-of-start
-    part-total-of-end
-    total-of-requires
+    add-total-at
+    total-at-requires
     wide-cell-word-requires
     returns)

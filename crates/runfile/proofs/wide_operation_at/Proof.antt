@@ -3,7 +3,7 @@
 use mathlib.Core.Path.{_∙_}
 use native.Mathlib.Omega.{arith}
 use Rattle.semantics.specs.Wide.{wideOperationWord}
-use Rattle.semantics.proofs.Parts.{part-agrees, inner-agrees, pair-agrees, flagged-agrees}
+use Rattle.semantics.proofs.Parts.{part-agrees, pair-agrees}
 use borrow.Author.Needs.{needs}
 use Rattle.runfile.proofs.wide_operation_at.Statement.{statement}
 use Rattle.runfile.proofs.wide_operation_at.Tie as tie
@@ -13,7 +13,7 @@ abbrev start : tie.After-byte-at → tie.Start
 start c = c .before .before .before
 
 abbrev after-pair-at : tie.After-wide-operation-word → tie.After-pair-at
-after-pair-at c = c .before .before .before
+after-pair-at c = c .before .before
 
 add-record : tie.Need-add-record
 add-record c = search needs
@@ -33,17 +33,11 @@ byte-at-requires c κs = search needs
 pair-at-requires : tie.Need-pair-at-requires
 pair-at-requires c κs = search needs
 
-sub-total-of : tie.Need-sub-total-of
-sub-total-of c = search needs
+add-total-at : tie.Need-add-total-at
+add-total-at c = search needs
 
-part-total-of-start : tie.Need-part-total-of-start
-part-total-of-start c = search needs
-
-part-total-of-end : tie.Need-part-total-of-end
-part-total-of-end c = search needs
-
-total-of-requires : tie.Need-total-of-requires
-total-of-requires c κs = search needs
+total-at-requires : tie.Need-total-at-requires
+total-at-requires c κs = search needs
 
 wide-operation-word-requires : tie.Need-wide-operation-word-requires
 wide-operation-word-requires c κs = search needs
@@ -51,10 +45,10 @@ wide-operation-word-requires c κs = search needs
 returns : tie.Need-returns
 returns c =
     let a = start (after-pair-at c .before) .args in
-    let same = part-agrees 10 (a .file .now) (a .at) in
+    let same = part-agrees 5 (a .file .now) (a .at) in
     let kind = after-pair-at c .before .byte-at .ensures ∙ same .byte 2 (omega arith) in
     let key = after-pair-at c .pair-at .ensures ∙ pair-agrees same 3 (omega arith) in
-    let amount = c .before .total-of .ensures ∙ flagged-agrees (inner-agrees same 5 5 (omega arith)) in
+    let amount = c .before .total-at .ensures in
     c .wide-operation-word .ensures ∙ (λ i. wideOperationWord (kind i) (key i) (amount i))
 
 pub wide-operation-at-spec : {M : Type 1} → statement M
@@ -67,9 +61,7 @@ wide-operation-at-spec =
     part-record-end
     byte-at-requires
     pair-at-requires
-    sub-total-of
-    part-total-of-start
-    part-total-of-end
-    total-of-requires
+    add-total-at
+    total-at-requires
     wide-operation-word-requires
     returns)

@@ -29,8 +29,8 @@ narrow-test c = c .before .before .before
 abbrev true-test : tie.After-put-labelled2 → tie.Else1
 true-test c = c .before .before .before .before
 
-abbrev start : tie.Then1 → tie.Start
-start c = c .before .before
+abbrev saturated-start : tie.Then1 → tie.Start
+saturated-start c = c .before .before
 
 abbrev true-start : tie.Else1 → tie.Start
 true-start c = c .before .before
@@ -52,7 +52,7 @@ unfolding text
 returns c =
     let put = after-put-labelled c in
     let test = wide-test put in
-    let a = start (test .before) .args in
+    let a = saturated-start (test .before) .args in
     same-text _ (ap (_++_ (text " ")) (at-least (a .total) (a .flagged) (test .before .if1 .taken) (test .if2 .taken))) (put .put-labelled .ensures)
 
 slice-aggregate-put-bytes : tie.Need-slice-aggregate-put-bytes
@@ -69,7 +69,7 @@ unfolding text
 returns-2 c =
     let put = after-put-bytes c in
     let test = narrow-test put in
-    let a = start (test .before) .args in
+    let a = saturated-start (test .before) .args in
     same-text _ (ap (_++_ (text " ")) (pinned-is (a .total) (a .flagged) (test .before .if1 .taken) (test .if2 .left))) (put .put-bytes .ensures)
 
 slice-aggregate-put-labelled-2 : tie.Need-slice-aggregate-put-labelled-2
