@@ -1,8 +1,9 @@
-//! The run files that are measured one by one. Each says how its text must
-//! begin, so that a file which is not what it claims to be is found out.
+//! The run files that are measured one by one, in either width. Each says how
+//! its text must begin, so that a file which is not what it claims to be is found
+//! out. A wide file with the name of a narrow one is the same job.
 
 use crate::contention;
-use crate::runfile::{key_at, RunFile, FIND};
+use crate::runfile::{key_at, RunFile, Width, FIND};
 use crate::tables::{all_passing, full};
 
 /// The table size of the large files: 2^12 is 4,096 cells, the most allowed.
@@ -25,46 +26,68 @@ impl Case {
     }
 }
 
-pub fn cases() -> Vec<Case> {
+pub fn cases(width: Width) -> Vec<Case> {
     vec![
-        run_in_full(),
+        run_in_full(width),
         Case::new(
             "4,096 empty cells, nothing else",
-            RunFile::empty(LARGEST).bytes(),
+            RunFile::empty(LARGEST).bytes(width),
             "rows 0 done 0 lost 0 idle 0\n",
         ),
         Case::new(
             "full, 16,384 passing steps",
-            all_passing(LARGEST, 64, 16_384).bytes(),
+            all_passing(LARGEST, 64, 16_384).bytes(width),
             "rows 64 done 0 lost 0 idle 0\n",
         ),
         Case::new(
             "half full, contention",
-            contention::file(LARGEST).bytes(),
+            contention::file(LARGEST).bytes(width),
             contention::BEGINS,
         ),
-        repeated_key(),
-        unreachable_key(),
-        refused_at_the_last_record(),
-        most_records(),
+        repeated_key(width),
+        unreachable_key(width),
+        refused_at_the_last_record(width),
+        most_records(width),
     ]
 }
 
-/// The specification's own run, as the examples have it.
-fn run_in_full() -> Case {
-    let file = include_bytes!("../../examples/run-in-full.run").to_vec();
-    let text = include_str!("../../examples/run-in-full.txt");
+/// The specification's own run, as the examples have it. In the wide one the
+/// third amount is as far past the ceiling as there, by 5.
+fn run_in_full(width: Width) -> Case {
+    let (file, text) = match width {
+        Width::Narrow => (
+            include_bytes!("../../examples/run-in-full.run").to_vec(),
+            include_str!("../../examples/run-in-full.txt"),
+        ),
+        Width::Wide => (
+            [
+                b"TW\x03".as_slice(),
+                b"OP\x04\x00\x01\x00\x00\x00\x00\x28",
+                b"OP\x04\x00\x09\x00\x00\x00\x00\x19",
+                b"OP\x04\x00\x01\x00\xFF\xFF\xFF\xDC",
+                b"SC\x0C\x00\x01\x02\x00\x01\x02\x01\x01\x02\x02\x01\x00",
+            ]
+            .concat(),
+            "rows 3 done 3 lost 2 idle 1\n\
+             row 0 add 1 40 inserted 0\n\
+             row 1 add 9 25 inserted 0\n\
+             row 2 add 1 4294967260 capped 40\n\
+             log 0 2 1\n\
+             cell 4 1 atleast 4294967295\n\
+             cell 5 9 25\n",
+        ),
+    };
     Case::new("the run in full", file, text)
 }
 
 /// Refusal 7 at the last cell, which has the key of the cell before it: whoever
 /// compares each cell with the lower ones from cell 0 on compares the most.
-fn repeated_key() -> Case {
+fn repeated_key(width: Width) -> Case {
     let mut file = all_passing(LARGEST, 64, 16_384);
     file.cells[4_095].1 = file.cells[4_094].1;
     Case::new(
         "refusal 7 at the last cell",
-        file.bytes(),
+        file.bytes(width),
         "refused 7 at 4095\n",
     )
 }
@@ -72,7 +95,7 @@ fn repeated_key() -> Case {
 /// Refusal 8 at the last cell, the only one with an empty cell between its home
 /// and itself. All homes lie far back, fifteen keys to each, so that whoever
 /// walks from every home to its cell walks far.
-fn unreachable_key() -> Case {
+fn unreachable_key(width: Width) -> Case {
     let mut file = all_passing(LARGEST, 64, 16_384);
     for (cell, (_, key, _)) in file.cells.iter_mut().enumerate() {
         *key = key_at(cell / 15, LARGEST, 1 + cell % 15);
@@ -80,41 +103,43 @@ fn unreachable_key() -> Case {
     file.cells.remove(4_094);
     Case::new(
         "refusal 8 at the last cell",
-        file.bytes(),
+        file.bytes(width),
         "refused 8 at 4095\n",
     )
 }
 
 /// The most bytes that a file may have, all cells, all operations, and as many
 /// schedule records as then fit: the last of them says two entries and has one.
-fn refused_at_the_last_record() -> Case {
+/// Fewer fit behind the longer records of a wide file, which is another job.
+fn refused_at_the_last_record(width: Width) -> Case {
+    let (name, entries) = match width {
+        Width::Narrow => ("65,535 bytes, last record cut short", 8_079),
+        Width::Wide => ("65,535 wide bytes, last cut short", 4_959),
+    };
     let mut file = full(LARGEST);
     file.operations = all_passing(LARGEST, 64, 0).operations;
-    file.schedule = (0..8_079).map(|i| (i % 64) as u8).collect();
+    file.schedule = (0..entries).map(|i| (i % 64) as u8).collect();
     file.entries_per_record = 1;
-    let mut bytes = file.bytes();
+    let mut bytes = file.bytes(width);
     let last_count = bytes.len() - 2;
     bytes[last_count] = 2;
     assert_eq!(bytes.len(), 65_535);
-    Case::new(
-        "65,535 bytes, last record cut short",
-        bytes,
-        "refused 10 at 65531\n",
-    )
+    Case::new(name, bytes, "refused 10 at 65531\n")
 }
 
-/// As many records as fit into a file. The first entry finishes the operation;
-/// all others are idle.
-fn most_records() -> Case {
+/// As many records as fit into a file of either width. The first entry finishes
+/// the operation; all others are idle.
+fn most_records(width: Width) -> Case {
     let mut file = RunFile::empty(3);
     file.operations = vec![(FIND, 1, 0)];
-    file.schedule = vec![0; 16_381];
+    file.schedule = vec![0; 16_380];
     file.entries_per_record = 1;
-    let bytes = file.bytes();
-    assert!(bytes.len() <= 65_535 && bytes.len() + 4 > 65_535);
+    let bytes = file.bytes(width);
+    // Into a narrow one just one more would fit.
+    assert!(bytes.len() <= 65_535 && bytes.len() + 8 > 65_535);
     Case::new(
-        "16,383 records, entries idle",
+        "16,382 records, entries idle",
         bytes,
-        "rows 1 done 1 lost 0 idle 16380\n",
+        "rows 1 done 1 lost 0 idle 16379\n",
     )
 }

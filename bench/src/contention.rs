@@ -1,6 +1,6 @@
 //! A table half full in which 64 operations meet at a few cells.
 
-use crate::runfile::{key_at, RunFile, ADD, FIND, INSERT, REMOVE, TOMBSTONE, UPDATE};
+use crate::runfile::{key_at, RunFile, Width, ADD, FIND, INSERT, REMOVE, TOMBSTONE, UPDATE};
 
 /// How the text of the file begins. Of the 16,384 entries all but the last 20
 /// are steps of unfinished operations: 579 lose a swap, 64 finish, and the rest
@@ -68,9 +68,14 @@ fn take_turns(file: &mut RunFile) {
 }
 
 fn unfinished(file: &RunFile) -> Vec<u8> {
-    let (mut cells, mut operations, mut schedule) = ([0; 4_096], [0; 64], [0; 16_384]);
+    let (mut cells, mut operations, mut schedule) = ([0_u32; 4_096], [0; 64], [0; 16_384]);
     let (mut answers, mut log) = ([0; 64], [0; 64]);
-    model::load(&file.bytes(), &mut cells, &mut operations, &mut schedule);
+    model::load(
+        &file.bytes(Width::Narrow),
+        &mut cells,
+        &mut operations,
+        &mut schedule,
+    );
     let schedule = &schedule[..file.schedule.len()];
     let outcome = model::run(&mut cells, &operations, schedule, &mut answers, &mut log);
     let finished = &log[..outcome.done];

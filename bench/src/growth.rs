@@ -1,7 +1,7 @@
 //! Series of run files in which one number grows and the others stay.
 
 use crate::cases::Case;
-use crate::runfile::RunFile;
+use crate::runfile::{RunFile, Width};
 use crate::tables::{all_found, all_passing};
 
 pub struct Series {
@@ -62,6 +62,6 @@ fn point(size: usize, file: RunFile, operations: usize, done: usize) -> Point {
     let begins = format!("rows {operations} done {done} lost 0 idle 0\n");
     Point {
         size,
-        case: Case::new(&size.to_string(), file.bytes(), &begins),
+        case: Case::new(&size.to_string(), file.bytes(Width::Narrow), &begins),
     }
 }

@@ -18,6 +18,7 @@ use cases::Case;
 use counts::Counts;
 use growth::Series;
 use measure::{call_once, figures, instructions, Figures, Pair};
+use runfile::Width;
 
 const USAGE: &str = "usage: bench calls|tables|instructions all|files|growth [COUNTS]
 calls          makes every call once, for callgrind to count
@@ -32,29 +33,37 @@ fn main() {
         [task, part, counts] => (task, part, Some(counts)),
         _ => fail(USAGE),
     };
-    let (cases, series) = match part {
-        "all" => (cases::cases(), growth::series()),
-        "files" => (cases::cases(), Vec::new()),
+    let (files, series) = match part {
+        "all" => (files(), growth::series()),
+        "files" => (files(), Vec::new()),
         "growth" => (Vec::new(), growth::series()),
         _ => fail(USAGE),
     };
+    let cases = files.iter().flat_map(|(_, cases)| cases);
     let points = series.iter().flat_map(|series| &series.points);
-    let all: Vec<&Case> = cases
-        .iter()
-        .chain(points.map(|point| &point.case))
-        .collect();
+    let all: Vec<&Case> = cases.chain(points.map(|point| &point.case)).collect();
     for case in &all {
         check::check(case).unwrap_or_else(|message| fail(&message));
     }
     match task {
         "calls" => all.into_iter().for_each(call_once),
-        "tables" => print(&cases, &series, &figures(&all, counts.map(read))),
+        "tables" => print(&files, &series, &figures(&all, counts.map(read))),
         "instructions" => {
             let counts = read(counts.unwrap_or_else(|| fail(USAGE)));
-            lines(&cases, &series, &instructions(&all, counts));
+            lines(&files, &series, &instructions(&all, counts));
         }
         _ => fail(USAGE),
     }
+}
+
+/// The files of a width, and what they are called together.
+type Files = (&'static str, Vec<Case>);
+
+fn files() -> Vec<Files> {
+    vec![
+        ("files", cases::cases(Width::Narrow)),
+        ("wide files", cases::cases(Width::Wide)),
+    ]
 }
 
 fn fail(message: &str) -> ! {
@@ -69,26 +78,41 @@ fn read(path: &str) -> Counts {
     }
 }
 
-/// The figures are those of the files, and then those of the series in turn.
-fn print(cases: &[Case], series: &[Series], figures: &[[Figures; 2]]) {
-    let (of_files, mut rest) = figures.split_at(cases.len());
-    if !cases.is_empty() {
-        print::files(cases);
-        print::figures_of_files(cases, of_files);
+/// The figures are those of the files of each width, and then those of the
+/// series in turn.
+fn print(files: &[Files], series: &[Series], figures: &[[Figures; 2]]) {
+    let mut rest = figures;
+    let mut following = |count| {
+        let (these, after) = rest.split_at(count);
+        rest = after;
+        these
+    };
+    let of_files: Vec<_> = files
+        .iter()
+        .map(|(name, cases)| (*name, cases.as_slice(), following(cases.len())))
+        .collect();
+    for &(name, cases, _) in &of_files {
+        print::files(name, cases);
+    }
+    for &(name, cases, figures) in &of_files {
+        print::figures_of_files(name, cases, figures);
+    }
+    if let [(_, narrow, of_narrow), (_, wide, of_wide)] = of_files[..] {
+        print::wide_by_narrow((narrow, of_narrow), (wide, of_wide));
     }
     for series in series {
-        let (of_series, after) = rest.split_at(series.points.len());
-        print::series(series, of_series);
-        rest = after;
+        print::series(series, following(series.points.len()));
     }
 }
 
-/// The same order as in `print`. A line is the figure, the series or "files",
-/// the file or its size, and the instructions of both sides.
-fn lines(cases: &[Case], series: &[Series], instructions: &[[Pair; 2]]) {
+/// The same order as in `print`. A line is the figure, the series or which
+/// files, the file or its size, and the instructions of both sides.
+fn lines(files: &[Files], series: &[Series], instructions: &[[Pair; 2]]) {
     let mut rest = instructions.iter();
-    for case in cases {
-        print::lines("files", case, rest.next());
+    for (name, cases) in files {
+        for case in cases {
+            print::lines(name, case, rest.next());
+        }
     }
     for series in series {
         for point in &series.points {

@@ -7,8 +7,9 @@ use crate::measure::{Figures, Pair};
 use crate::work::STAGES;
 
 /// What the files are, so that the figures below can be judged.
-pub fn files(cases: &[Case]) {
-    println!("\n{:<36}{:>8}   first line of the text", "Files", "bytes");
+pub fn files(name: &str, cases: &[Case]) {
+    let title = capital(name);
+    println!("\n{title:<36}{:>8}   first line of the text", "bytes");
     for case in cases {
         let bytes = grouped(case.file.len() as f64);
         println!("{:<36}{bytes:>8}   {}", case.name, outcome(case));
@@ -16,14 +17,50 @@ pub fn files(cases: &[Case]) {
 }
 
 /// The figures of one stage of each file.
-pub fn figures_of_files(cases: &[Case], figures: &[[Figures; 2]]) {
+pub fn figures_of_files(name: &str, cases: &[Case], figures: &[[Figures; 2]]) {
     for (number, stage) in STAGES.iter().enumerate() {
-        println!("\nFiles: {}", stage.name);
+        println!("\n{}: {}", capital(name), stage.name);
         println!("{:<36}{}", "", head(figures));
         for (case, figures) in cases.iter().zip(figures) {
             println!("{:<36}{}", case.name, columns(figures[number]));
         }
     }
+}
+
+/// Files of a width with their figures.
+type Measured<'a> = (&'a [Case], &'a [[Figures; 2]]);
+
+/// What the wide file costs the proved side, divided by what the narrow file of
+/// the same name costs it.
+pub fn wide_by_narrow(narrow: Measured, wide: Measured) {
+    println!("\nThe proved side, wide divided by narrow, where both are the same job");
+    let [run, report] = STAGES.map(|stage| stage.name);
+    println!("{:<36}{run:>20}{report:>20}", "");
+    println!(
+        "{:<36}{:>10}{:>10}{:>10}{:>10}",
+        "", "ns", "instr.", "ns", "instr."
+    );
+    for (case, figures) in wide.0.iter().zip(wide.1) {
+        let twin = narrow.0.iter().position(|twin| twin.name == case.name);
+        let Some(twin) = twin.map(|number| &narrow.1[number]) else {
+            continue;
+        };
+        print!("{:<36}", case.name);
+        for (wide, narrow) in figures.iter().zip(twin) {
+            let times = wide.nanoseconds.proved / narrow.nanoseconds.proved;
+            print!("{times:>10.2}");
+            match (wide.instructions, narrow.instructions) {
+                (Some(wide), Some(narrow)) => print!("{:>10.2}", wide.proved / narrow.proved),
+                _ => print!("{:>10}", "-"),
+            }
+        }
+        println!();
+    }
+}
+
+/// A name as a title begins.
+fn capital(name: &str) -> String {
+    name[..1].to_uppercase() + &name[1..]
 }
 
 /// The figures of each stage of each point, with the instructions that every

@@ -20,7 +20,35 @@ pub fn key_at(home: usize, k: u8, which: usize) -> u16 {
     key
 }
 
-/// What a run file says.
+/// The width of a file's totals and amounts.
+#[derive(Clone, Copy, PartialEq)]
+pub enum Width {
+    Narrow,
+    Wide,
+}
+
+impl Width {
+    fn mark(self) -> &'static [u8] {
+        match self {
+            Width::Narrow => b"TB",
+            Width::Wide => b"TW",
+        }
+    }
+
+    /// Writes a total or an amount. A wide one has no flag: it is as true as
+    /// the narrow one.
+    fn total(self, out: &mut Vec<u8>, total: u16) {
+        match self {
+            Width::Narrow => out.extend_from_slice(&total.to_be_bytes()),
+            Width::Wide => {
+                out.push(0);
+                out.extend_from_slice(&u32::from(total).to_be_bytes());
+            }
+        }
+    }
+}
+
+/// What a run file says, in either width.
 #[derive(Clone)]
 pub struct RunFile {
     /// The table has 2^k cells.
@@ -46,19 +74,20 @@ impl RunFile {
         }
     }
 
-    pub fn bytes(&self) -> Vec<u8> {
-        let mut out = vec![b'T', b'B', self.k];
+    pub fn bytes(&self, width: Width) -> Vec<u8> {
+        let mut out = width.mark().to_vec();
+        out.push(self.k);
         for &(number, key, total) in &self.cells {
             out.extend_from_slice(b"CL");
             out.extend_from_slice(&number.to_be_bytes());
             out.extend_from_slice(&key.to_be_bytes());
-            out.extend_from_slice(&total.to_be_bytes());
+            width.total(&mut out, total);
         }
         for &(kind, key, amount) in &self.operations {
             out.extend_from_slice(b"OP");
             out.push(kind);
             out.extend_from_slice(&key.to_be_bytes());
-            out.extend_from_slice(&amount.to_be_bytes());
+            width.total(&mut out, amount);
         }
         for entries in self.schedule.chunks(self.entries_per_record) {
             out.extend_from_slice(b"SC");

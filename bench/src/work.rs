@@ -5,52 +5,65 @@
 
 use std::hint::black_box;
 
-use model::{Loaded, Outcome};
+use calls::Proved;
+use model::{Loaded, Outcome, Word};
 
-/// The longest text that there is: the proved report is never refused with it.
-const LONGEST_TEXT: usize = 98_304;
+/// No text is longer, of either width: the proved report is never refused with
+/// it. A line of a wide cell has at most 35 bytes and one of an operation 66, so
+/// that 4,096 and 64 of them, the log and the counts have at most 146,688.
+const LONGEST_TEXT: usize = 147_456;
 
 /// A file and all that is lent to the calls. Both sides get the same slices.
 pub struct Work<'a> {
     pub file: &'a [u8],
-    pub cells: Vec<u32>,
-    pub operations: Vec<u64>,
-    pub schedule: Vec<u8>,
-    pub answers: Vec<u32>,
-    pub log: Vec<u8>,
+    pub slices: Slices,
     /// The slice that the proved report writes into.
     pub out: Vec<u8>,
     /// What the Rust report appends to; it has room for the longest text.
     pub text: Vec<u8>,
 }
 
+/// What is lent to a reader and a run, of the width that the file has.
+#[derive(PartialEq)]
+pub enum Slices {
+    Narrow(Lent<u32>),
+    Wide(Lent<u64>),
+}
+
+#[derive(PartialEq)]
+pub struct Lent<W> {
+    cells: Vec<W>,
+    operations: Vec<u64>,
+    schedule: Vec<u8>,
+    answers: Vec<W>,
+    log: Vec<u8>,
+}
+
 /// What `load` returned and, where it accepted the file, what `run` did.
 pub type Ran = (Loaded, Option<Outcome>);
 
-type Load = fn(&[u8], &mut [u32], &mut [u64], &mut [u8]) -> Loaded;
-type Run = fn(&mut [u32], &[u64], &[u8], &mut [u32], &mut [u8]) -> Outcome;
+type Load<W> = fn(&[u8], &mut [W], &mut [u64], &mut [u8]) -> Loaded;
+type Run<W> = fn(&mut [W], &[u64], &[u8], &mut [W], &mut [u8]) -> Outcome;
 
-impl<'a> Work<'a> {
+impl<W: Proved> Lent<W> {
     /// The slices hold what no file of the bench leaves in them, so that what is
     /// not written shows.
-    pub fn new(file: &'a [u8]) -> Work<'a> {
-        Work {
-            file,
-            cells: vec![0x5555_5555; 4_096],
+    fn new() -> Lent<W> {
+        let word = W::from(0x5555_5555_u32);
+        Lent {
+            cells: vec![word; 4_096],
             operations: vec![0x5555_5555_5555_5555; 64],
             schedule: vec![0x55; 16_384],
-            answers: vec![0x5555_5555; 64],
+            answers: vec![word; 64],
             log: vec![0x55; 64],
-            out: vec![0x55; LONGEST_TEXT],
-            text: Vec::with_capacity(LONGEST_TEXT),
         }
     }
 
     /// The run is lent exactly what was read.
     #[inline(always)]
-    fn load_and_run(&mut self, load: Load, run: Run) -> Ran {
+    fn load_and_run(&mut self, file: &[u8], load: Load<W>, run: Run<W>) -> Ran {
         let loaded = load(
-            self.file,
+            file,
             &mut self.cells,
             &mut self.operations,
             &mut self.schedule,
@@ -67,12 +80,43 @@ impl<'a> Work<'a> {
         (loaded, outcome)
     }
 
+    #[inline(always)]
+    fn proved(&mut self, file: &[u8]) -> Ran {
+        self.load_and_run(file, calls::load, calls::run)
+    }
+
+    #[inline(always)]
+    fn rust(&mut self, file: &[u8]) -> Ran {
+        self.load_and_run(file, model::load, model::run)
+    }
+}
+
+impl<'a> Work<'a> {
+    pub fn new(file: &'a [u8]) -> Work<'a> {
+        let slices = match file.starts_with(u64::MARK) {
+            true => Slices::Wide(Lent::new()),
+            false => Slices::Narrow(Lent::new()),
+        };
+        Work {
+            file,
+            slices,
+            out: vec![0x55; LONGEST_TEXT],
+            text: Vec::with_capacity(LONGEST_TEXT),
+        }
+    }
+
     pub fn proved_load_and_run(&mut self) -> Ran {
-        self.load_and_run(calls::load, calls::run)
+        match &mut self.slices {
+            Slices::Narrow(lent) => lent.proved(self.file),
+            Slices::Wide(lent) => lent.proved(self.file),
+        }
     }
 
     pub fn rust_load_and_run(&mut self) -> Ran {
-        self.load_and_run(model::load, model::run)
+        match &mut self.slices {
+            Slices::Narrow(lent) => lent.rust(self.file),
+            Slices::Wide(lent) => lent.rust(self.file),
+        }
     }
 
     pub fn proved_report(&mut self) -> &[u8] {

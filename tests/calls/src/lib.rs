@@ -2,10 +2,13 @@
 //! boundary, a slice as a pointer and a length. What is returned is handed on as
 //! the second model's own types, so that the two can be compared.
 
-use model::{Loaded, Outcome};
+pub mod width;
 
+use model::{Loaded, Outcome, Word};
+
+/// What a run returns, as C has it.
 #[repr(C)]
-struct RawOutcome {
+pub struct RawOutcome {
     number: u32,
     place: usize,
     done: usize,
@@ -13,8 +16,9 @@ struct RawOutcome {
     idle: usize,
 }
 
+/// What a reader returns, as C has it.
 #[repr(C)]
-struct RawLoaded {
+pub struct RawLoaded {
     number: u32,
     place: usize,
     cells: usize,
@@ -31,44 +35,91 @@ pub struct Written {
     pub length: usize,
 }
 
+/// The run of a width: cells, operations, schedule, answers, log.
+pub type RawRun<W> = unsafe extern "C" fn(
+    *mut W,
+    usize,
+    *const u64,
+    usize,
+    *const u8,
+    usize,
+    *mut W,
+    usize,
+    *mut u8,
+    usize,
+) -> RawOutcome;
+
+/// The reader of a width: file, cells, operations, schedule.
+pub type RawLoad<W> = unsafe extern "C" fn(
+    *const u8,
+    usize,
+    *mut W,
+    usize,
+    *mut u64,
+    usize,
+    *mut u8,
+    usize,
+) -> RawLoaded;
+
+/// A word for whose width there are a proved run and a proved reader.
+pub trait Proved: Word {
+    const RUN: RawRun<Self>;
+    const LOAD: RawLoad<Self>;
+}
+
+/// Declares the two functions of a width.
+macro_rules! proved {
+    ($word:ty, $run:ident, $load:ident) => {
+        extern "C" {
+            fn $run(
+                cells: *mut $word,
+                cells_len: usize,
+                operations: *const u64,
+                operations_len: usize,
+                schedule: *const u8,
+                schedule_len: usize,
+                answers: *mut $word,
+                answers_len: usize,
+                log: *mut u8,
+                log_len: usize,
+            ) -> RawOutcome;
+
+            fn $load(
+                file: *const u8,
+                file_len: usize,
+                cells: *mut $word,
+                cells_len: usize,
+                operations: *mut u64,
+                operations_len: usize,
+                schedule: *mut u8,
+                schedule_len: usize,
+            ) -> RawLoaded;
+        }
+
+        impl Proved for $word {
+            const RUN: RawRun<$word> = $run;
+            const LOAD: RawLoad<$word> = $load;
+        }
+    };
+}
+
+proved!(u32, room_run, room_load);
+proved!(u64, room_run_wide, room_load_wide);
+
 extern "C" {
-    fn room_run(
-        cells: *mut u32,
-        cells_len: usize,
-        operations: *const u64,
-        operations_len: usize,
-        schedule: *const u8,
-        schedule_len: usize,
-        answers: *mut u32,
-        answers_len: usize,
-        log: *mut u8,
-        log_len: usize,
-    ) -> RawOutcome;
-
-    fn room_load(
-        file: *const u8,
-        file_len: usize,
-        cells: *mut u32,
-        cells_len: usize,
-        operations: *mut u64,
-        operations_len: usize,
-        schedule: *mut u8,
-        schedule_len: usize,
-    ) -> RawLoaded;
-
     fn room_report(file: *const u8, file_len: usize, out: *mut u8, out_len: usize) -> Written;
 }
 
-pub fn run(
-    cells: &mut [u32],
+pub fn run<W: Proved>(
+    cells: &mut [W],
     operations: &[u64],
     schedule: &[u8],
-    answers: &mut [u32],
+    answers: &mut [W],
     log: &mut [u8],
 ) -> Outcome {
     // Each pointer and length is that of one slice, lent for the call alone.
     let raw = unsafe {
-        room_run(
+        (W::RUN)(
             cells.as_mut_ptr(),
             cells.len(),
             operations.as_ptr(),
@@ -90,9 +141,14 @@ pub fn run(
     }
 }
 
-pub fn load(file: &[u8], cells: &mut [u32], operations: &mut [u64], schedule: &mut [u8]) -> Loaded {
+pub fn load<W: Proved>(
+    file: &[u8],
+    cells: &mut [W],
+    operations: &mut [u64],
+    schedule: &mut [u8],
+) -> Loaded {
     let raw = unsafe {
-        room_load(
+        (W::LOAD)(
             file.as_ptr(),
             file.len(),
             cells.as_mut_ptr(),
@@ -112,6 +168,7 @@ pub fn load(file: &[u8], cells: &mut [u32], operations: &mut [u64], schedule: &m
     }
 }
 
+/// The report takes a file of either width.
 pub fn report(file: &[u8], out: &mut [u8]) -> Written {
     unsafe { room_report(file.as_ptr(), file.len(), out.as_mut_ptr(), out.len()) }
 }

@@ -1,7 +1,7 @@
-//! Calls of the report: output slices of every length.
+//! Calls of the report, on files of either width: output slices of every length.
 
+use calls::width::Width;
 use calls::Written;
-use generated::files::case;
 
 /// What is written into a slice of a length, over bytes that are 0x55.
 fn into(length: usize, write: &dyn Fn(&mut [u8]) -> Written) -> (Written, Vec<u8>) {
@@ -39,28 +39,67 @@ fn handed(text: &[u8], write: &dyn Fn(&mut [u8]) -> Written) {
     }
 }
 
-#[test]
-fn reports() {
+fn reports<W: Width>() {
     for index in 0..3_000 {
-        let file = case(13, index).file;
+        let file = W::file(13, index);
         let mut text = Vec::new();
         model::report(&file, &mut text);
         handed(&text, &|out| calls::report(&file, out));
     }
 }
 
-#[test]
-fn every_length_up_to_a_whole_text() {
-    let file = std::fs::read(concat!(
-        env!("CARGO_MANIFEST_DIR"),
-        "/../../examples/run-in-full.run"
-    ));
-    let file = file.expect("the example is there");
+/// A text as long as any, but for the number of lost swaps: every cell has a
+/// room of five digits with the longest total, the operations change the first
+/// 64 of them by such a total, and the rest of the schedule is idle.
+fn a_text_of_all_cells_and_operations<W: Width>() {
+    let mut rooms = vec![0; 4_096];
+    for key in 10_000..=65_534 {
+        rooms[model::home(key, 4_096) as usize] = key as u16;
+    }
+    let total = W::bytes(W::pinned(W::CEILING));
+    let mut file = [W::MARK.as_slice(), &[12]].concat();
+    for (cell, room) in (0_u16..).zip(&rooms) {
+        let (cell, room) = (cell.to_be_bytes(), room.to_be_bytes());
+        file.extend([b"CL".as_slice(), &cell, &room, &total].concat());
+    }
+    for room in &rooms[..64] {
+        file.extend([b"OP\x03".as_slice(), &room.to_be_bytes(), &total].concat());
+    }
+    let schedule: Vec<u8> = (0..16_384_u16).map(|entry| entry as u8 % 64).collect();
+    for entries in schedule.chunks(255) {
+        file.extend([b"SC".as_slice(), &[entries.len() as u8], entries].concat());
+    }
+    let mut text = "rows 64 done 64 lost 0 idle 16256\n".to_string();
+    let longest = W::LONGEST;
+    for (row, room) in rooms[..64].iter().enumerate() {
+        text += &format!("row {row} update {room} {longest} changed {longest}\n");
+    }
+    text += "log";
+    (0..64).for_each(|row| text += &format!(" {row}"));
+    text += "\n";
+    for (cell, room) in rooms.iter().enumerate() {
+        text += &format!("cell {cell} {room} {longest}\n");
+    }
+    handed(text.as_bytes(), &|out| calls::report(&file, out));
+}
+
+fn every_length_up_to_a_whole_text(file: &[u8]) {
     let mut text = Vec::new();
-    model::report(&file, &mut text);
+    model::report(file, &mut text);
     for length in 0..text.len() {
-        let (written, out) = into(length, &|out| calls::report(&file, out));
+        let (written, out) = into(length, &|out| calls::report(file, out));
         assert_eq!((written.number, written.place, written.length), (3, 0, 0));
         assert!(out.iter().all(|&byte| byte == 0x55));
     }
+}
+
+#[test]
+fn every_length_up_to_the_texts_of_two_examples() {
+    every_length_up_to_a_whole_text(include_bytes!("../../../examples/run-in-full.run"));
+    every_length_up_to_a_whole_text(include_bytes!("../../../examples/hospital.run"));
+}
+
+calls::in_both_widths! {
+    reports,
+    a_text_of_all_cells_and_operations,
 }

@@ -1,124 +1,148 @@
 //! What the adds of an accepted run have shown of the ceiling: the total that
 //! each found, the sum that it made, and what a lost swap did to its answer.
 
-use crate::classify::Start;
-use crate::coverage::Coverage;
-use crate::observe::Line;
+use std::cmp::Ordering;
 
-/// The saturated total ("pinned"); those below it are true.
-const CEILING: u32 = 65_535;
+use model::{Outcome, Word};
+
+use crate::classify::Start;
+use crate::observe::Line;
+use crate::width::{Width, FLAG};
 
 /// Notes the sums around the ceiling, and for each swap that an add lost what
 /// would have been answered there and what was answered in the end.
-pub fn adds(start: &Start, lines: &[Line], coverage: &mut Coverage) {
+pub fn adds<W: Word>(
+    width: Width,
+    start: &Start<W>,
+    lines: &[Line],
+    note: &mut impl FnMut(&str, &str),
+) {
+    let stops = stops(start);
     let rows = lines.iter().enumerate();
     for (row, line) in rows.filter(|row| row.1.kind == "add") {
-        if let Some(sum) = sum(line) {
+        if let Some(sum) = sum(width, line) {
             let item = format!("{sum} {}", line.answer);
-            coverage.note("adds around the ceiling", &item, ' ');
+            note("adds around the ceiling", &item);
         }
-        for held in lost_totals(start, row, line.key) {
-            let item = format!("{} then {}", foreseen(held, line.amount), answered(line));
-            coverage.note("adds retried", &item, ' ');
+        if let Some(sum) = flagged_sum(width, line) {
+            note("adds with a flag", &format!("{sum} {}", line.answer));
+        }
+        for held in lost_totals(&stops, &start.schedule, row, line.key) {
+            let foreseen = foreseen(width, held, line.amount);
+            let item = format!("{foreseen} then {}", answered(width, line));
+            note("adds retried", &item);
         }
     }
+}
+
+/// The number of a total, whether or not it has a flag.
+fn number(total: u64) -> u64 {
+    total % FLAG
 }
 
 /// The total that an add found, by its answer, and what it made of it.
-fn sum(line: &Line) -> Option<&'static str> {
-    let (total, amount) = (u32::from(line.total), u32::from(line.amount));
+fn sum(width: Width, line: &Line) -> Option<String> {
+    let pinned = |total| width.is_pinned(total);
     match line.answer {
-        "inserted" if amount == CEILING => return Some("pinned"),
+        "inserted" if pinned(line.amount) => return Some("pinned".into()),
         "changed" | "capped" => {}
         _ => return None,
     }
-    match (total, amount) {
-        (CEILING, 0) => Some("pinned by 0"),
-        (CEILING, CEILING) => Some("pinned by pinned"),
-        (CEILING, _) => Some("pinned by true"),
-        (0, CEILING) => Some("0 by pinned"),
-        (_, CEILING) => Some("true by pinned"),
-        _ if total + amount > CEILING => Some("true above"),
-        _ if total + amount == CEILING => Some("true to 65535"),
-        _ if total + amount == CEILING - 1 => Some("true to 65534"),
-        _ => None,
+    let (ceiling, sum) = (width.ceiling(), number(line.total) + number(line.amount));
+    match (pinned(line.total), pinned(line.amount)) {
+        (true, false) if line.amount == 0 => Some("pinned by 0".into()),
+        (true, false) => Some("pinned by true".into()),
+        (true, true) => Some("pinned by pinned".into()),
+        (false, true) if line.total == 0 => Some("0 by pinned".into()),
+        (false, true) => Some("true by pinned".into()),
+        (false, false) if sum > ceiling => Some("true above".into()),
+        // To the ceiling or right below it, by that number.
+        (false, false) if sum + 1 >= ceiling => Some(format!("true to {sum}")),
+        (false, false) => None,
     }
 }
 
-fn answered(line: &Line) -> String {
-    match (line.answer, u32::from(line.total)) {
-        ("changed", CEILING) => "changed pinned".into(),
-        (answer, _) => answer.into(),
+/// Where the whole sum of an add lies that had a flag on either side: with one
+/// it need not be at the ceiling to be pinned.
+fn flagged_sum(width: Width, line: &Line) -> Option<String> {
+    let named = |total| if total >= FLAG { "flagged" } else { "true" };
+    let sides = (named(line.total), named(line.amount));
+    if sides == ("true", "true") || !matches!(line.answer, "changed" | "capped") {
+        return None;
+    }
+    let sum = number(line.total) + number(line.amount);
+    let lies = match sum.cmp(&width.ceiling()) {
+        Ordering::Less => "below",
+        Ordering::Equal => "to it",
+        Ordering::Greater => "above",
+    };
+    Some(format!("{} by {} {lies}", sides.0, sides.1))
+}
+
+fn answered(width: Width, line: &Line) -> String {
+    match line.answer {
+        "changed" if width.is_pinned(line.total) => "changed pinned".into(),
+        answer => answer.into(),
     }
 }
 
 /// What an add would have been answered, had the swap been won that it lost
 /// while it held this total, or an empty cell.
-fn foreseen(held: Option<u32>, amount: u16) -> &'static str {
+fn foreseen(width: Width, held: Option<u64>, amount: u64) -> &'static str {
     match held {
         None => "inserted",
-        Some(CEILING) => "changed pinned",
-        Some(total) if total + u32::from(amount) < CEILING => "changed",
-        Some(_) => "capped",
+        Some(total) if width.is_pinned(total) => "changed pinned",
+        Some(_) if width.is_pinned(amount) => "capped",
+        Some(total) if total + amount >= width.ceiling() => "capped",
+        Some(_) => "changed",
     }
+}
+
+/// What stands after so many entries of the schedule: the second model's stops.
+type Stops<W> = Vec<(Outcome, Vec<W>, Vec<W>, Vec<u8>)>;
+
+/// A text does not show what a row held when it lost a swap: it is seen in the
+/// second model's stops, which are taken where there are not too many of them.
+fn stops<W: Word>(start: &Start<W>) -> Stops<W> {
+    if start.schedule.len() * start.cells.len() > 4_096 {
+        return Vec::new();
+    }
+    let count = start.operations.len();
+    model::stops(
+        &mut start.cells.clone(),
+        &start.operations,
+        &start.schedule,
+        &mut vec![W::from(0); count],
+        &mut vec![0; count],
+    )
 }
 
 /// The total that a row held of its key at each swap that it lost; nothing for
-/// an empty cell. A text does not show it: it is seen in the second model's runs
-/// of the first entries of the schedule, where there are not too many of them.
-fn lost_totals(start: &Start, row: usize, key: u16) -> Vec<Option<u32>> {
+/// an empty cell.
+fn lost_totals<W: Word>(
+    stops: &Stops<W>,
+    schedule: &[u8],
+    row: usize,
+    key: u16,
+) -> Vec<Option<u64>> {
     let mut totals = Vec::new();
-    if start.schedule.len() * start.cells.len() > 4_096 {
-        return totals;
-    }
     let mut held = None;
-    let entries = start.schedule.iter().enumerate();
-    for (place, _) in entries.filter(|entry| usize::from(*entry.1) == row) {
-        let (before, after) = (Part::of(start, place), Part::of(start, place + 1));
+    for (stop, &entry) in stops.windows(2).zip(schedule) {
+        let [(before, ..), (after, cells, answers, _)] = stop else {
+            break;
+        };
+        if usize::from(entry) != row {
+            continue;
+        }
         if after.lost > before.lost {
             totals.push(held);
         }
-        if after.answers[row] != 0 {
+        if answers[row].code() != 0 {
             break;
         }
         // A read alters no cell: the word that the row holds is in its cell.
-        held = after.total(key);
+        let word = cells.iter().find(|word| word.key() == key);
+        held = word.map(|word| word.total().into());
     }
     totals
-}
-
-/// What a run of the first entries of a schedule leaves.
-struct Part {
-    lost: usize,
-    cells: Vec<u32>,
-    answers: Vec<u32>,
-}
-
-impl Part {
-    fn of(start: &Start, entries: usize) -> Part {
-        let count = start.operations.len();
-        let mut cells = start.cells.clone();
-        let mut answers = vec![0; count];
-        let schedule = &start.schedule[..entries];
-        let lost = model::run(
-            &mut cells,
-            &start.operations,
-            schedule,
-            &mut answers,
-            &mut vec![0; count],
-        )
-        .lost;
-        Part {
-            lost,
-            cells,
-            answers,
-        }
-    }
-
-    /// The total of a key, if it is there.
-    fn total(&self, key: u16) -> Option<u32> {
-        let mut words = self.cells.iter();
-        let word = words.find(|&&word| word >> 16 == u32::from(key))?;
-        Some(word & 0xFFFF)
-    }
 }

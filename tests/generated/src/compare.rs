@@ -6,10 +6,13 @@ use std::panic::{catch_unwind, AssertUnwindSafe};
 use std::path::{Path, PathBuf};
 use std::process::{Command, Stdio};
 
-use crate::classify::{start, Start};
+use model::Word;
+
+use crate::classify::start;
 use crate::coverage::Coverage;
-use crate::files::{case, Case};
+use crate::files::{case_of, Case};
 use crate::observe;
+use crate::width::Width;
 
 /// How many failures a worker shows and keeps; the rest is only counted.
 const SHOWN: usize = 20;
@@ -67,8 +70,8 @@ impl Worker<'_> {
         }
     }
 
-    pub fn check(&mut self, index: usize) {
-        let case = case(self.seed, index);
+    pub fn check(&mut self, width: Width, index: usize) {
+        let case = case_of(width, self.seed, index);
         self.tally.files += 1;
         // A slip of the model fails one file and not the rest.
         if catch_unwind(AssertUnwindSafe(|| self.compare(index, &case))).is_err() {
@@ -90,32 +93,31 @@ impl Worker<'_> {
         let text = text.unwrap_or_default();
         if expected.starts_with(b"rows ") {
             self.tally.accepted += 1;
-            let start = start(&case.file);
-            observe::accepted(case, &start, &text, &mut self.tally.coverage);
-            self.demands(&start, index, case);
+            match Width::of(&case.file) {
+                Width::Narrow => self.accepted::<u32>(&text, index, case),
+                Width::Wide => self.accepted::<u64>(&text, index, case),
+            }
         } else {
             self.tally.refused += 1;
             observe::refused(case, &text, &mut self.tally.coverage);
         }
         if let Some((name, beginning)) = &case.fixed {
             if text.starts_with(beginning.as_bytes()) {
-                self.tally.coverage.note("fixed", name, ' ');
+                self.tally.coverage.note(case.width, "fixed", name, ' ');
             }
         }
     }
 
-    /// The model's own run of an accepted file is held against the demands.
-    fn demands(&mut self, start: &Start, index: usize, case: &Case) {
-        let Start {
-            cells,
-            operations,
-            schedule,
-        } = start;
+    /// What the text of an accepted file shows is noted, and the model's own run
+    /// of it is held against the demands.
+    fn accepted<W: Word>(&mut self, text: &[u8], index: usize, case: &Case) {
+        let start = start::<W>(&case.file);
+        observe::accepted(case, &start, text, &mut self.tally.coverage);
+        let (cells, operations, schedule) = (&start.cells, &start.operations, &start.schedule);
         let totals = model::demands::totals(cells, operations, schedule);
         if totals == Ok(true) {
-            self.tally
-                .coverage
-                .note("accepted with", "totals rule", ' ');
+            let coverage = &mut self.tally.coverage;
+            coverage.note(case.width, "accepted with", "totals rule", ' ');
         }
         let totals = totals
             .map(|_| ())
@@ -140,12 +142,16 @@ impl Worker<'_> {
         };
         self.tally.failed += 1;
         if self.tally.failed <= SHOWN {
-            let kept = format!("{KEPT}/FAILED-{}-{index}.run", self.seed);
+            // A narrow and a wide file may have the same index.
+            let width = case.width.name().replace(' ', "-");
+            let kept = format!("{KEPT}/FAILED-{width}{}-{index}.run", self.seed);
             let written = fs::create_dir_all(KEPT).and_then(|()| fs::write(&kept, &case.file));
             let kept = written.map_or_else(|error| error.to_string(), |()| kept);
             println!(
-                "FAILED seed {} index {index} ({}): {kept}\n{what}",
-                self.seed, case.family
+                "FAILED {}seed {} index {index} ({}): {kept}\n{what}",
+                case.width.name(),
+                self.seed,
+                case.family
             );
         }
     }

@@ -3,16 +3,18 @@
 
 use std::collections::BTreeMap;
 
-use crate::fixed::NAMES;
-use crate::pairs::{Pairs, IN_ONE_RECORD, PAIRS};
+use crate::fixed::names;
+use crate::pairs::{in_one_record, Pairs, PAIRS};
 use crate::recipes::RECIPES;
+use crate::width::{Width, WIDTHS};
 
-/// Lines of the table: a title and its items. Behind a colon stand the places
-/// at which an item must occur: `f` first, `m` a middle one, `l` last. `X>Y` is
-/// a record with mark X behind one with mark Y. `true to 65535 capped` is an add
-/// that found a true total, made it 65,535 and was answered capped; `X then Y`
-/// one that would have been answered X had it not lost its swap, and then was
-/// answered Y.
+/// Lines of the table that both widths have: a title and its items. Behind a
+/// colon stand the places at which an item must occur: `f` first, `m` a middle
+/// one, `l` last. `X>Y` is a record with mark X behind one with mark Y; TB is TW
+/// in a wide file. `true to CEILING capped` is an add that found a true total,
+/// made it the ceiling of its width and was answered capped, BELOW being the
+/// number next to it; `X then Y` one that would have been answered X had it not
+/// lost its swap, and then was answered Y.
 #[rustfmt::skip]
 const LINES: &[(&str, &str)] = &[
     ("kinds", "find, insert, update, add, remove"),
@@ -22,7 +24,7 @@ const LINES: &[(&str, &str)] = &[
     ("of update", "unfinished, changed, absent"),
     ("of add", "unfinished, inserted, changed, full, capped"),
     ("of remove", "unfinished, removed, absent"),
-    ("adds around the ceiling", "true to 65534 changed, true to 65535 capped, true above capped, true by pinned capped, \
+    ("adds around the ceiling", "true to BELOW changed, true to CEILING capped, true above capped, true by pinned capped, \
         0 by pinned capped, pinned by 0 changed, pinned by true changed, pinned by pinned changed, pinned inserted"),
     ("adds retried", "changed then capped, inserted then capped, capped then capped, capped then changed, \
         capped then changed pinned, capped then inserted"),
@@ -35,17 +37,33 @@ const LINES: &[(&str, &str)] = &[
     ("accepted, has", "none, CL, OP, CL OP, OP SC, CL OP SC"),
     ("refused 12", "by one, by more"),
     ("refused 10 mark, behind", "nothing, start, TB, CL, OP, SC"),
-    ("refused 9", "unknown:fml, TB:ml, CL:fml, OP:fml, SC:f, unknown>TB, unknown>CL, unknown>OP, unknown>SC, \
+    ("refused 9", "unknown:fml, the other width's:ml, TB:ml, CL:fml, OP:fml, SC:f, unknown>TB, unknown>CL, unknown>OP, unknown>SC, \
         TB>TB, TB>CL, TB>OP, TB>SC, CL>OP, CL>SC, OP>SC"),
     ("refused 10 body", "TB>start, CL>TB, CL>CL, OP>TB, OP>CL, OP>OP, SC count>TB, SC count>CL, SC count>OP, SC count>SC, \
         SC>TB, SC>CL, SC>OP, SC>SC"),
     ("refused 11", "TB 13, TB 16, TB 63, TB 64, TB 255, twice:ml, descending:ml, not below c:fml, key 0:fml, SC 0:fml"),
     ("refused 2", "OP:ml, SC:ml"),
-    ("refused 4", "cell:fml"),
+    ("refused 4", "total:fml"),
     ("refused 5", "kind 0:fml, kind 6:fml, kind 255:fml, key 0:fml, key 65535:fml, find amount:fml, remove amount:fml"),
     ("refused 6", "number of rows:fml, 255:fml, other:fml, no rows:f"),
     ("refused 7", "cell:ml"),
     ("refused 8", "cell:fml"),
+];
+
+/// What wide files show besides, as lines or as more items of those. Where
+/// either side of a sum had a flag, `true by flagged below` is one whose whole
+/// sum is below the ceiling. `found 65535` is a total that is listed so, and
+/// true; `found atleast` one that is listed with its flag.
+#[rustfmt::skip]
+const WIDE_LINES: &[(&str, &str)] = &[
+    ("adds with a flag", "true by flagged below capped, true by flagged to it capped, true by flagged above capped, \
+        flagged by true below changed, flagged by true to it changed, flagged by true above changed, \
+        flagged by flagged below changed, flagged by flagged to it changed, flagged by flagged above changed"),
+    ("listed", "amount atleast, found atleast, present atleast, changed atleast, removed atleast, cell atleast, \
+        amount 65535, found 65535, present 65535, changed 65535, removed 65535, capped 65535, cell 65535"),
+    ("refused 11", "CL flag 2:fml, CL flag 255:fml, CL other flag:fml, OP flag 2:fml, OP flag 255:fml, OP other flag:fml"),
+    ("refused 4", "flag alone:fml, total and flag:fml, unflagged ceiling:fml"),
+    ("refused 5", "find flag:fml, remove flag:fml, unflagged ceiling:fml"),
 ];
 
 #[derive(Default)]
@@ -55,8 +73,9 @@ pub struct Coverage {
 
 impl Coverage {
     /// Notes that something occurred; the place is a blank if it has none.
-    pub fn note(&mut self, title: &str, item: &str, place: char) {
-        let key = (title.into(), item.into(), place);
+    pub fn note(&mut self, width: Width, title: &str, item: &str, place: char) {
+        let title = format!("{}{title}", width.name());
+        let key = (title, item.into(), place);
         *self.counts.entry(key).or_insert(0) += 1;
     }
 
@@ -72,7 +91,7 @@ impl Coverage {
         println!("coverage, with a/b/c for the first, a middle and the last place:");
         let mut asked = 0;
         let mut never = Vec::new();
-        for (title, items) in lines() {
+        for (title, items) in WIDTHS.into_iter().flat_map(lines) {
             let mut shown = Vec::new();
             for item in items.split(", ") {
                 let (item, places) = item.split_once(':').unwrap_or((item, " "));
@@ -106,15 +125,30 @@ impl Coverage {
     }
 }
 
-/// The lines above, and those of the fixed cases and of the pairs of faults.
-fn lines() -> Vec<(String, String)> {
-    let given = LINES
-        .iter()
-        .map(|(title, items)| (title.to_string(), items.to_string()));
-    let mut lines: Vec<_> = given.collect();
+/// The lines above as this width has them, and those of the fixed cases and of
+/// the pairs of faults.
+fn lines(width: Width) -> Vec<(String, String)> {
+    let (ceiling, below) = (width.ceiling(), width.ceiling() - 1);
+    let shared = |&(title, items): &(&str, &str)| {
+        let items = items.replace("TB", width.mark_text());
+        let items = items.replace("CEILING", &ceiling.to_string());
+        (
+            title.to_string(),
+            items.replace("BELOW", &below.to_string()),
+        )
+    };
+    let mut lines: Vec<(String, String)> = LINES.iter().map(shared).collect();
+    if width == Width::Wide {
+        for &(title, items) in WIDE_LINES {
+            match lines.iter_mut().find(|line| line.0 == title) {
+                Some((_, there)) => *there += &format!(", {items}"),
+                None => lines.push((title.into(), items.into())),
+            }
+        }
+    }
     let recipes: Vec<&str> = RECIPES.iter().map(|recipe| recipe.name).collect();
     lines.push(("accepted, of".into(), recipes.join(", ")));
-    lines.push(("fixed".into(), NAMES.join(", ")));
+    lines.push(("fixed".into(), names(width).join(", ")));
     let mut add = |pairs: Pairs, in_one_record| {
         let pair = |&(first, seconds): &(&str, &[&str])| {
             (pair_title(first, in_one_record), seconds.join(", "))
@@ -122,8 +156,9 @@ fn lines() -> Vec<(String, String)> {
         lines.extend(pairs.iter().map(pair));
     };
     add(PAIRS, false);
-    add(IN_ONE_RECORD, true);
-    lines
+    add(in_one_record(width), true);
+    let titled = |(title, items)| (format!("{}{title}", width.name()), items);
+    lines.into_iter().map(titled).collect()
 }
 
 /// The title of the line of the pairs that this row of the table decides.

@@ -6,31 +6,32 @@ use crate::plan::split;
 use crate::random::Random;
 use crate::recipes::{plan, LARGE, PLAIN, RECIPES, SMALL};
 use crate::spoil::{Spoiled, PLACES};
+use crate::width::Width;
 
 const READER: &[&str] = &["10m", "9", "10b", "11", "2"];
 const RUN: &[&str] = &["4", "5", "6", "7", "8"];
 
 /// One fault. The numbers go through every row of the refusal table, each at
 /// the first, a middle and the last place, and in each of its ways.
-pub fn single(number: usize, random: &mut Random) -> Vec<u8> {
+pub fn single(width: Width, number: usize, random: &mut Random) -> Vec<u8> {
     let rows = READER.len() + RUN.len();
     let (row, number) = (number % rows, number / rows);
     let (place, way) = (PLACES[number % 3], number / 3);
     if row >= READER.len() {
         loop {
             let recipe = if random.percent(80) { PLAIN } else { LARGE };
-            let mut made = Spoiled::new(plan(&recipe, random));
+            let mut made = Spoiled::new(plan(width, &recipe, random));
             if made.add(RUN[row - READER.len()], way, place, random) {
                 return made.plan.file(random);
             }
         }
     }
-    let mut plan = base(&[READER[row]], random);
+    let mut plan = base(width, &[READER[row]], random);
     // Half of the files of too many operations end with the last of them.
     if READER[row] == "2" && plan.schedule.len() < 1_000 && random.percent(50) {
         plan.schedule.clear();
     }
-    let counts = split(plan.schedule.len(), random);
+    let counts = split(width, plan.schedule.len(), random);
     let mut records = plan.records(&counts);
     let mut faults = parts(&plan, &records).faults(READER[row], place, random);
     let fault = faults.swap_remove(way % faults.len());
@@ -41,11 +42,11 @@ pub fn single(number: usize, random: &mut Random) -> Vec<u8> {
 
 /// A small file, and the same cut at every byte: the numbers go through all
 /// cuts of one file, then through those of the next.
-pub fn prefix(seed: u64, number: usize) -> Vec<u8> {
+pub fn prefix(width: Width, seed: u64, number: usize) -> Vec<u8> {
     let mut number = number;
     for whole in 0.. {
         let random = &mut Random::new(seed ^ 0xC07, whole);
-        let mut file = plan(&PLAIN, random).file(random);
+        let mut file = plan(width, &PLAIN, random).file(random);
         if number <= file.len() {
             file.truncate(number);
             return file;
@@ -56,8 +57,8 @@ pub fn prefix(seed: u64, number: usize) -> Vec<u8> {
 }
 
 /// A file of any recipe with a few bytes changed, put in or taken out.
-pub fn mutated(random: &mut Random) -> Vec<u8> {
-    let mut file = plan(&RECIPES[random.below(SMALL)], random).file(random);
+pub fn mutated(width: Width, random: &mut Random) -> Vec<u8> {
+    let mut file = plan(width, &RECIPES[random.below(SMALL)], random).file(random);
     for _ in 0..random.between(1, 2) {
         let at = random.below(file.len());
         let byte = match random.percent(50) {
@@ -74,9 +75,9 @@ pub fn mutated(random: &mut Random) -> Vec<u8> {
 }
 
 /// A file with whole records exchanged, repeated or left out.
-pub fn shuffled(random: &mut Random) -> Vec<u8> {
-    let plan = plan(&PLAIN, random);
-    let counts = split(plan.schedule.len(), random);
+pub fn shuffled(width: Width, random: &mut Random) -> Vec<u8> {
+    let plan = plan(width, &PLAIN, random);
+    let counts = split(width, plan.schedule.len(), random);
     let mut records = plan.records(&counts).list;
     let (one, other) = (random.below(records.len()), random.below(records.len()));
     match random.below(3) {
@@ -88,25 +89,26 @@ pub fn shuffled(random: &mut Random) -> Vec<u8> {
 }
 
 /// Bytes of no meaning, some of them beginning as a file does.
-pub fn noise(random: &mut Random) -> Vec<u8> {
+pub fn noise(width: Width, random: &mut Random) -> Vec<u8> {
     let length = random.below(300);
     let few = random.percent(50);
+    let letters = [&width.mark()[..], b"CLOPSC\0\x01\x03\x05"].concat();
     let byte = |_| match few {
-        true => random.pick(b"TBCLOPSC\0\x01\x03\x05"),
+        true => random.pick(&letters),
         false => random.byte(),
     };
     let mut bytes: Vec<u8> = (0..length).map(byte).collect();
     if random.percent(60) {
-        let start = random.pick(&[
-            &b"TB\x03"[..],
-            b"TB\x0C",
-            b"TB\x00OP",
-            b"TB\x01CL",
-            b"TB\x04CL",
-            b"TB\x03OP",
-            b"TB\x05SC",
+        let behind = random.pick(&[
+            &b"\x03"[..],
+            b"\x0C",
+            b"\x00OP",
+            b"\x01CL",
+            b"\x04CL",
+            b"\x03OP",
+            b"\x05SC",
         ]);
-        bytes.splice(0..0, start.iter().copied());
+        bytes.splice(0..0, [&width.mark()[..], behind].concat());
     }
     bytes
 }

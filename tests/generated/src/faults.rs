@@ -4,6 +4,7 @@
 use crate::plan::{cell, entries, operation, table, Cell, Operation, Records, MOST_OPERATIONS};
 use crate::random::Random;
 use crate::spoil::Place;
+use crate::width::{Width, FLAG};
 
 /// A faulty record, and the positions where it is the fault that is meant.
 pub struct Fault {
@@ -46,6 +47,7 @@ impl Fault {
 
 /// What the faults of a file are made of.
 pub struct Parts<'a> {
+    pub width: Width,
     pub k: u8,
     pub records: &'a Records,
     pub operation: Operation,
@@ -56,9 +58,36 @@ impl Parts<'_> {
         self.records.list.len()
     }
 
+    /// A record of a cell, of the sound operation with its own amount or
+    /// another, and of the table, each in the file's width.
+    pub fn cell(&self, at: u16, held: Cell) -> Vec<u8> {
+        cell(self.width, at, held)
+    }
+
+    pub fn operation(&self) -> Vec<u8> {
+        operation(self.width, self.operation)
+    }
+
+    pub fn operation_of(&self, amount: u64) -> Vec<u8> {
+        let row = Operation {
+            amount,
+            ..self.operation
+        };
+        operation(self.width, row)
+    }
+
+    pub fn table(&self, k: u8) -> Vec<u8> {
+        table(self.width, k)
+    }
+
     /// Behind the TB or any CL.
     pub fn among_cells(&self) -> (usize, usize) {
         (1, self.records.operations)
+    }
+
+    /// Before any OP or behind the last.
+    pub fn among_operations(&self) -> (usize, usize) {
+        (self.records.operations, self.records.entries)
     }
 
     /// Behind the last OP or any SC.
@@ -106,22 +135,29 @@ impl Parts<'_> {
     }
 
     fn marks_wrong(&self, random: &mut Random) -> Vec<Fault> {
-        let unknown = random.pick(&[b"TW", b"BT", b"tb", b"CO", b"LC", b"OC", b"SP", b"\0\0"]);
+        let other = self.width.other_mark();
+        let unknown = random.pick(&[other, b"BT", b"tb", b"CO", b"LC", b"OC", b"SP", b"\0\0"]);
         let mut record = unknown.to_vec();
         record.extend((0..random.below(7)).map(|_| random.byte()));
-        let held = cell(0, Cell { key: 1, total: 2 });
-        let row = operation(self.operation);
+        let held = self.cell(0, Cell { key: 1, total: 2 });
+        let row = self.operation();
         let then = Then::Follows;
-        vec![
+        let mut faults = vec![
             fault((0, self.end()), record, then),
-            fault(self.among_cells(), table(self.k), then),
-            fault(self.among_entries(), table(self.k), then),
+            fault(self.among_cells(), self.table(self.k), then),
+            fault(self.among_entries(), self.table(self.k), then),
             fault(self.behind_operations(), held.clone(), then),
             fault(self.behind_entries(), row.clone(), then),
             fault((0, 0), held, then),
             fault((0, 0), row, then),
             fault((0, 0), entries(&[0]), then),
-        ]
+        ];
+        // Whole, and not first, where it would make another width of the file.
+        if self.width == Width::Wide {
+            let narrow = table(Width::Narrow, self.k);
+            faults.push(fault((1, self.end()), narrow, then));
+        }
+        faults
     }
 
     fn bodies_cut(&self, random: &mut Random) -> Vec<Fault> {
@@ -129,14 +165,14 @@ impl Parts<'_> {
             let length = random.between(2, record.len() - 1);
             record[..length].to_vec()
         };
-        let held = cut(cell(0, Cell { key: 1, total: 2 }), random);
-        let row = cut(operation(self.operation), random);
+        let held = cut(self.cell(0, Cell { key: 1, total: 2 }), random);
+        let row = cut(self.operation(), random);
         let count = random.between(1, 255);
         let mut rows = entries(&vec![0; count]);
         rows.truncate(3 + random.below(count));
         let then = Then::Ends;
         vec![
-            fault((0, 0), b"TB".to_vec(), then),
+            fault((0, 0), self.width.mark().to_vec(), then),
             fault(self.among_cells(), held, then),
             fault((1, self.records.entries), row, then),
             fault(self.among_cells(), b"SC".to_vec(), then),
@@ -152,15 +188,15 @@ impl Parts<'_> {
         let sound = Cell { key: 9, total: 2 };
         let keyless = Cell { key: 0, total: 2 };
         let then = Then::Follows;
-        let size = |k| fault((0, 0), table(k), Then::IsReplaced);
+        let size = |k| fault((0, 0), self.table(k), Then::IsReplaced);
         let mut faults = vec![
             size(13),
             size(16),
             size(63),
             size(64),
             size(255),
-            fault(self.among_cells(), cell(beyond, sound), then),
-            fault((1, 1), cell(0, keyless), then),
+            fault(self.among_cells(), self.cell(beyond, sound), then),
+            fault((1, 1), self.cell(0, keyless), then),
             fault(self.among_entries(), entries(&[]), then),
         ];
         // Behind a CL, if there is one.
@@ -168,12 +204,38 @@ impl Parts<'_> {
             let at = place.position(2, self.records.operations, random);
             let before = self.number(at - 1);
             let lower = random.between(0, usize::from(before.max(1)) - 1) as u16;
-            let behind = |number, held| fault((at, at), cell(number, held), then);
+            let behind = |number, held| fault((at, at), self.cell(number, held), then);
             faults.extend([
                 behind(before, sound),
                 behind(lower, sound),
                 behind((before + 1).min(c - 1), keyless),
             ]);
+        }
+        if self.width == Width::Wide {
+            faults.extend(self.flags_wrong(place, random));
+        }
+        faults
+    }
+
+    /// Flag bytes other than 0 and 1, in a first and a later CL and in an OP.
+    fn flags_wrong(&self, place: Place, random: &mut Random) -> Vec<Fault> {
+        let mut faults = Vec::new();
+        for byte in [2, 255, random.between(3, 254) as u64] {
+            let total = byte * FLAG + random.pick(&[0, 7, FLAG - 1]);
+            let held = Cell { key: 9, total };
+            faults.extend([
+                fault((1, 1), self.cell(0, held), Then::Follows),
+                fault(
+                    self.among_operations(),
+                    self.operation_of(total),
+                    Then::Follows,
+                ),
+            ]);
+            if self.records.operations > 1 {
+                let at = place.position(2, self.records.operations, random);
+                let next = (self.number(at - 1) + 1).min((1 << self.k) - 1);
+                faults.push(fault((at, at), self.cell(next, held), Then::Follows));
+            }
         }
         faults
     }
@@ -192,7 +254,7 @@ impl Parts<'_> {
 
     pub fn one_more(&self, random: &mut Random) -> Vec<u8> {
         if self.records.entries - self.records.operations == MOST_OPERATIONS {
-            operation(self.operation)
+            self.operation()
         } else {
             entries(&vec![0; random.between(1, 255)])
         }

@@ -7,9 +7,12 @@ use crate::plan::Plan;
 use crate::random::Random;
 use crate::recipes::{plan, RECIPES, SMALL};
 use crate::sizes::sized;
+use crate::width::Width;
 
 /// A generated file, and what is known of it.
 pub struct Case {
+    /// The width that it is made in; a damaged file may be read in the other.
+    pub width: Width,
     pub family: &'static str,
     pub file: Vec<u8>,
     pub pair: Option<Pair>,
@@ -31,8 +34,24 @@ const FAMILIES: &[(&str, usize)] = &[
     ("sized", 1),
 ];
 
-/// The same for the same seed and index, for ever.
+/// What sets the numbers of wide files apart from those of narrow ones.
+const WIDE: u64 = 0x5749_4445;
+
+/// A narrow file, the same for the same seed and index, for ever.
 pub fn case(seed: u64, index: usize) -> Case {
+    case_of(Width::Narrow, seed, index)
+}
+
+/// A wide file, by the same recipes.
+pub fn wide_case(seed: u64, index: usize) -> Case {
+    case_of(Width::Wide, seed, index)
+}
+
+pub fn case_of(width: Width, seed: u64, index: usize) -> Case {
+    let seed = match width {
+        Width::Narrow => seed,
+        Width::Wide => seed ^ WIDE,
+    };
     let round: usize = FAMILIES.iter().map(|family| family.1).sum();
     let mut slot = index % round;
     let mut families = FAMILIES.iter();
@@ -43,12 +62,19 @@ pub fn case(seed: u64, index: usize) -> Case {
         }
         slot -= files;
     };
-    made(family, number, seed, &mut Random::new(seed, index as u64))
+    let random = &mut Random::new(seed, index as u64);
+    made(width, (family, number), seed, random)
 }
 
 /// The file with this number in its family.
-fn made(family: &'static str, number: usize, seed: u64, random: &mut Random) -> Case {
+fn made(
+    width: Width,
+    (family, number): (&'static str, usize),
+    seed: u64,
+    random: &mut Random,
+) -> Case {
     let mut case = Case {
+        width,
         family,
         file: Vec::new(),
         pair: None,
@@ -58,30 +84,30 @@ fn made(family: &'static str, number: usize, seed: u64, random: &mut Random) -> 
         "recipe" => {
             let recipe = &RECIPES[number % RECIPES.len()];
             case.family = recipe.name;
-            case.file = plan(recipe, random).file(random);
+            case.file = plan(width, recipe, random).file(random);
         }
-        "parts" => case.file = without_parts(number, random).file(random),
+        "parts" => case.file = without_parts(width, number, random).file(random),
         "fixed" => {
-            let Fixed { name, text, file } = fixed(number, random);
+            let Fixed { name, text, file } = fixed(width, number, random);
             (case.file, case.fixed) = (file, Some((name, text)));
         }
-        "single" => case.file = single(number, random),
+        "single" => case.file = single(width, number, random),
         "pair" => {
-            let (file, pair) = pair(number, random);
+            let (file, pair) = pair(width, number, random);
             (case.file, case.pair) = (file, Some(pair));
         }
-        "prefix" => case.file = prefix(seed, number),
-        "mutated" => case.file = mutated(random),
-        "shuffled" => case.file = shuffled(random),
-        "noise" => case.file = noise(random),
-        _ => case.file = sized(number, random),
+        "prefix" => case.file = prefix(width, seed, number),
+        "mutated" => case.file = mutated(width, random),
+        "shuffled" => case.file = shuffled(width, random),
+        "noise" => case.file = noise(width, random),
+        _ => case.file = sized(width, number, random),
     }
     case
 }
 
 /// A run with no CL, no OP, no SC, or any of these together.
-fn without_parts(number: usize, random: &mut Random) -> Plan {
-    let mut plan = plan(&RECIPES[random.below(SMALL)], random);
+fn without_parts(width: Width, number: usize, random: &mut Random) -> Plan {
+    let mut plan = plan(width, &RECIPES[random.below(SMALL)], random);
     if number & 1 != 0 {
         plan.cells.clear();
     }

@@ -19,3 +19,4 @@ mod schedules;
 mod sizes;
 mod spoil;
 mod tables;
+pub mod width;

@@ -1,5 +1,6 @@
 //! Puts generated run files through a program and through the second model,
-//! and compares what they write: `generated ROOMRUN [SEED [COUNT]]`.
+//! and compares what they write: `generated ROOMRUN [SEED [COUNT]]`. There are
+//! COUNT narrow files, and half as many wide ones.
 //!
 //! What must have occurred at least once, and did not, has failed; a count far
 //! below the usual one leaves such gaps.
@@ -10,6 +11,7 @@ use std::sync::atomic::{AtomicUsize, Ordering};
 use std::time::Instant;
 
 use generated::compare::{Tally, Worker};
+use generated::width::Width;
 
 const WORKERS: usize = 2;
 const SEED: u64 = 1;
@@ -39,9 +41,10 @@ fn main() -> ExitCode {
         println!("FAILED never occurred: {item}");
     }
     println!(
-        "generated: {} files (seed {seed}; {} accepted, {} refused; {} differ), \
+        "generated: {} files (seed {seed}; {} wide; {} accepted, {} refused; {} differ), \
          {} checks of demands ({} at every prefix), {items} items of coverage, {} s",
         tally.files,
+        count / 2,
         tally.accepted,
         tally.refused,
         tally.differ,
@@ -65,11 +68,11 @@ fn compared(program: &Path, seed: u64, count: usize) -> Tally {
             tally: Tally::default(),
         };
         loop {
-            let index = next.fetch_add(1, Ordering::Relaxed);
-            if index >= count {
-                break;
+            match next.fetch_add(1, Ordering::Relaxed) {
+                index if index < count => worker.check(Width::Narrow, index),
+                index if index < count + count / 2 => worker.check(Width::Wide, index - count),
+                _ => break,
             }
-            worker.check(index);
         }
         let _ = std::fs::remove_file(&worker.input);
         worker.tally

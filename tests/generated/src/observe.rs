@@ -1,13 +1,19 @@
 //! What a file and the text that the program wrote for it have shown.
 
+use std::collections::BTreeSet;
+
+use model::Word;
+
 use crate::ceiling;
 use crate::classify::{classify, numbers, Start};
 use crate::coverage::{pair_title, Coverage};
 use crate::files::Case;
 use crate::pairs::Pair;
+use crate::width::{Width, FLAG};
 
 /// Notes which refusal was written, and whether it is the first of a pair.
 pub fn refused(case: &Case, text: &[u8], coverage: &mut Coverage) {
+    let mut note = |title: &str, item: &str, place| coverage.note(case.width, title, item, place);
     let Some((number, place)) = numbers(text) else {
         return;
     };
@@ -25,19 +31,19 @@ pub fn refused(case: &Case, text: &[u8], coverage: &mut Coverage) {
         } else {
             refusal.place
         };
-        coverage.note(&title, wrong, place);
+        note(&title, wrong, place);
     }
-    coverage.note("refused, of", case.family, ' ');
-    if let [b'T', b'B', k @ 0..=12, ..] = case.file[..] {
-        coverage.note("refused, k", &k.to_string(), ' ');
+    note("refused, of", case.family, ' ');
+    if let [b'T', b'B' | b'W', k @ 0..=12, ..] = case.file[..] {
+        note("refused, k", &k.to_string(), ' ');
         if k < 3 {
-            coverage.note("refused in 1, 2 or 4 cells", refusal.row, ' ');
+            note("refused in 1, 2 or 4 cells", refusal.row, ' ');
         }
     }
     if let Some(pair) = &case.pair {
         if refusal.row == pair.first && has_second(pair, place) {
             let title = pair_title(pair.first, pair.in_one_record);
-            coverage.note(&title, pair.second, ' ');
+            note(&title, pair.second, ' ');
         }
     }
 }
@@ -60,42 +66,57 @@ fn has_second(pair: &Pair, place: usize) -> bool {
 pub struct Line<'a> {
     pub kind: &'a str,
     pub key: u16,
-    pub amount: u16,
+    /// With a flag, `FLAG` more than its number; so is the total.
+    pub amount: u64,
     pub answer: &'a str,
-    pub total: u16,
+    pub total: u64,
 }
 
-fn total(text: &str) -> Option<u16> {
-    match text {
-        "pinned" => Some(65_535),
+/// The total or amount that the next words are.
+fn total<'a>(words: &mut impl Iterator<Item = &'a str>) -> Option<u64> {
+    match words.next()? {
+        "pinned" => Some(Width::Narrow.ceiling()),
+        "atleast" => Some(FLAG + words.next()?.parse::<u64>().ok()?),
         digits => digits.parse().ok(),
     }
 }
 
 fn line(text: &str) -> Option<Line<'_>> {
-    let fields: Vec<&str> = text.strip_prefix("row ")?.split(' ').collect();
-    let [_, kind, key, amount, answer, old] = fields[..] else {
-        return None;
+    let mut words = text.strip_prefix("row ")?.split(' ').skip(1);
+    let line = Line {
+        kind: words.next()?,
+        key: words.next()?.parse().ok()?,
+        amount: total(&mut words)?,
+        answer: words.next()?,
+        total: total(&mut words)?,
     };
-    Some(Line {
-        kind,
-        key: key.parse().ok()?,
-        amount: total(amount)?,
-        answer,
-        total: total(old)?,
-    })
+    words.next().is_none().then_some(line)
 }
 
 /// Notes what the text of an accepted run shows.
-pub fn accepted(case: &Case, start: &Start, text: &[u8], coverage: &mut Coverage) {
+pub fn accepted<W: Word>(case: &Case, start: &Start<W>, text: &[u8], coverage: &mut Coverage) {
     let text = String::from_utf8_lossy(text);
     let lines: Vec<Line> = text.lines().filter_map(line).collect();
+    let mut note = |title: &str, item: &str| coverage.note(case.width, title, item, ' ');
+    // As it was read: damage may have made another width of it.
+    let width = Width::of(&case.file);
+    ceiling::adds(width, start, &lines, &mut note);
     for line in &lines {
-        coverage.note("kinds", line.kind, ' ');
-        coverage.note("answers", line.answer, ' ');
-        coverage.note(&format!("of {}", line.kind), line.answer, ' ');
+        note("kinds", line.kind);
+        note("answers", line.answer);
+        note(&format!("of {}", line.kind), line.answer);
+        for (what, total) in [("amount", line.amount), (line.answer, line.total)] {
+            if let Some(how) = listed(width, total) {
+                note("listed", &format!("{what} {how}"));
+            }
+        }
     }
-    ceiling::adds(start, &lines, coverage);
+    // Once for a text, which may have thousands of cells.
+    let cells = text.lines().filter_map(cell_total);
+    let cells: BTreeSet<_> = cells.filter_map(|total| listed(width, total)).collect();
+    for how in cells {
+        note("listed", &format!("cell {how}"));
+    }
     let passed = |line| passes_tombstone(start, line);
     let shown = [
         (
@@ -111,12 +132,28 @@ pub fn accepted(case: &Case, start: &Start, text: &[u8], coverage: &mut Coverage
     ];
     let shown = shown.into_iter().chain(counted(&text));
     for (item, _) in shown.filter(|shown| shown.1) {
-        coverage.note("accepted with", item, ' ');
+        note("accepted with", item);
     }
-    coverage.note("accepted, of", case.family, ' ');
+    note("accepted, of", case.family);
     let k = start.cells.len().trailing_zeros();
-    coverage.note("accepted, k", &k.to_string(), ' ');
-    coverage.note("accepted, has", &has(start), ' ');
+    note("accepted, k", &k.to_string());
+    note("accepted, has", &has(start));
+}
+
+/// How a wide total is listed that a narrow listing would have as pinned, or
+/// that has a flag.
+fn listed(width: Width, total: u64) -> Option<&'static str> {
+    match (width, total) {
+        (Width::Wide, 65_535) => Some("65535"),
+        (Width::Wide, FLAG..) => Some("atleast"),
+        _ => None,
+    }
+}
+
+/// The total in the line of a live cell.
+fn cell_total(line: &str) -> Option<u64> {
+    let mut words = line.strip_prefix("cell ")?.split(' ').skip(2);
+    total(&mut words)
 }
 
 /// What the first line of a text shows.
@@ -134,12 +171,15 @@ fn counted(text: &str) -> Vec<(&'static str, bool)> {
 }
 
 /// The cells that were empty at the start and hold a key now, with its home.
-fn stored<'a>(start: &'a Start, text: &'a str) -> impl Iterator<Item = (u32, u32)> + 'a {
+fn stored<'a, W: Word>(
+    start: &'a Start<W>,
+    text: &'a str,
+) -> impl Iterator<Item = (u32, u32)> + 'a {
     let cell = |line: &str| {
         let (at, rest) = line.strip_prefix("cell ")?.split_once(' ')?;
         let key: u32 = rest.split_once(' ')?.0.parse().ok()?;
         let at: u32 = at.parse().ok()?;
-        let new = start.cells.get(at as usize) == Some(&0);
+        let new = start.cells.get(at as usize) == Some(&W::EMPTY);
         new.then_some((at, model::home(key, start.cells.len() as u32)))
     };
     text.lines().filter_map(cell)
@@ -147,12 +187,12 @@ fn stored<'a>(start: &'a Start, text: &'a str) -> impl Iterator<Item = (u32, u32
 
 /// Whether the search for a finished operation's key goes over a cell that was
 /// a tombstone at the start: cells that are not empty stay so.
-fn passes_tombstone(start: &Start, line: &Line) -> bool {
+fn passes_tombstone<W: Word>(start: &Start<W>, line: &Line) -> bool {
     let c = start.cells.len();
     let home = model::home(u32::from(line.key), c as u32) as usize;
     let words = (0..c).map(|passed| start.cells[(home + passed) % c]);
-    let mut passed = words.take_while(|&word| word != 0 && word >> 16 != u32::from(line.key));
-    line.answer != "unfinished" && passed.any(|word| word >> 16 == 65_535)
+    let mut passed = words.take_while(|&word| word != W::EMPTY && word.key() != line.key);
+    line.answer != "unfinished" && passed.any(|word| word == W::TOMBSTONE)
 }
 
 /// Whether a key was removed by one operation and stored by another.
@@ -168,9 +208,9 @@ fn stored_again(lines: &[Line]) -> bool {
 }
 
 /// Which parts a file has besides its TB.
-fn has(start: &Start) -> String {
+fn has<W: Word>(start: &Start<W>) -> String {
     let parts = [
-        ("CL", start.cells.iter().any(|&word| word != 0)),
+        ("CL", start.cells.iter().any(|&word| word != W::EMPTY)),
         ("OP", !start.operations.is_empty()),
         ("SC", !start.schedule.is_empty()),
     ];

@@ -9,6 +9,7 @@ use crate::random::Random;
 use crate::recipes::{plan, PLAIN};
 use crate::schedules::schedule;
 use crate::spoil::{Place, Spoiled};
+use crate::width::Width;
 
 /// A row that decides, and the rows that it decides against. Where both are
 /// the reader's, the record of the first comes before that of the second.
@@ -32,7 +33,19 @@ pub const PAIRS: Pairs = &[
 ];
 
 /// Both faults in the same record.
-pub const IN_ONE_RECORD: Pairs = &[("9", &["10b", "11", "2"]), ("10b", &["11", "2"])];
+pub fn in_one_record(width: Width) -> Pairs {
+    const NARROW: Pairs = &[("9", &["10b", "11", "2"]), ("10b", &["11", "2"])];
+    // Only a wide OP can be wrong and one too many at once.
+    const WIDE: Pairs = &[
+        ("9", &["10b", "11", "2"]),
+        ("10b", &["11", "2"]),
+        ("11", &["2"]),
+    ];
+    match width {
+        Width::Narrow => NARROW,
+        Width::Wide => WIDE,
+    }
+}
 
 pub struct Pair {
     pub first: &'static str,
@@ -43,7 +56,7 @@ pub struct Pair {
 }
 
 /// The pair with this number, counted round and round.
-pub fn numbered(number: usize) -> (&'static str, &'static str, bool) {
+fn numbered(width: Width, number: usize) -> (&'static str, &'static str, bool) {
     let flat = |pairs: Pairs, in_one_record| {
         let each = move |&(first, seconds): &(&'static str, &'static [&'static str])| {
             seconds
@@ -53,22 +66,22 @@ pub fn numbered(number: usize) -> (&'static str, &'static str, bool) {
         pairs.iter().flat_map(each)
     };
     let all: Vec<_> = flat(PAIRS, false)
-        .chain(flat(IN_ONE_RECORD, true))
+        .chain(flat(in_one_record(width), true))
         .collect();
     all[number % all.len()]
 }
 
 /// A file with both faults. Not every plan has room for every pair, so plans
 /// are tried until one has.
-pub fn pair(number: usize, random: &mut Random) -> (Vec<u8>, Pair) {
-    let (first, second, in_one_record) = numbered(number);
+pub fn pair(width: Width, number: usize, random: &mut Random) -> (Vec<u8>, Pair) {
+    let (first, second, in_one_record) = numbered(width, number);
     loop {
         let made = match (first, second) {
-            _ if in_one_record => double(first, second, random),
-            ("12", _) => oversize(second, random),
-            _ if RUN.contains(&first) => both_of_run(first, second, random),
-            _ if RUN.contains(&second) => before_run(first, second, random),
-            _ => both_of_reader(first, second, random),
+            _ if in_one_record => double(width, first, second, random),
+            ("12", _) => oversize(width, second, random),
+            _ if RUN.contains(&first) => both_of_run(width, first, second, random),
+            _ if RUN.contains(&second) => before_run(width, first, second, random),
+            _ => both_of_reader(width, first, second, random),
         };
         if let Some((both, alone)) = made {
             let pair = Pair {
@@ -89,8 +102,8 @@ fn any_place(random: &mut Random) -> Place {
 }
 
 /// A plan for the faults of these rows; row 2 needs one that is at the limit.
-pub fn base(rows: &[&str], random: &mut Random) -> Plan {
-    let mut plan = plan(&PLAIN, random);
+pub fn base(width: Width, rows: &[&str], random: &mut Random) -> Plan {
+    let mut plan = plan(width, &PLAIN, random);
     if rows.contains(&"2") {
         if random.percent(60) {
             most_operations(&mut plan);
@@ -108,6 +121,7 @@ fn most_operations(plan: &mut Plan) {
 
 pub fn parts<'a>(plan: &Plan, records: &'a Records) -> Parts<'a> {
     Parts {
+        width: plan.width,
         k: plan.k,
         records,
         operation: plan.operations[0],
@@ -119,8 +133,8 @@ fn spoiled(row: &str, place: Place, spoiled: &mut Spoiled, random: &mut Random) 
     spoiled.add(row, way, place, random).then_some(())
 }
 
-fn both_of_run(first: &str, second: &str, random: &mut Random) -> Files {
-    let mut both = Spoiled::new(base(&[], random));
+fn both_of_run(width: Width, first: &str, second: &str, random: &mut Random) -> Files {
+    let mut both = Spoiled::new(base(width, &[], random));
     // Of two faults of one row, the lower place decides.
     let (lower, higher) = match first == second && random.percent(60) {
         true => (Place::First, Place::Last),
@@ -149,10 +163,10 @@ fn chosen(row: &str, parts: &Parts, whole: bool, random: &mut Random) -> Option<
     }
 }
 
-fn before_run(first: &str, second: &str, random: &mut Random) -> Files {
-    let mut made = Spoiled::new(base(&[first], random));
+fn before_run(width: Width, first: &str, second: &str, random: &mut Random) -> Files {
+    let mut made = Spoiled::new(base(width, &[first], random));
     spoiled(second, any_place(random), &mut made, random)?;
-    let counts = split(made.plan.schedule.len(), random);
+    let counts = split(width, made.plan.schedule.len(), random);
     let records = made.plan.records(&counts);
     let (at, fault) = chosen(first, &parts(&made.plan, &records), true, random)?;
     let mut list = records.list.clone();
@@ -160,9 +174,9 @@ fn before_run(first: &str, second: &str, random: &mut Random) -> Files {
     Some((list.concat(), records.file()))
 }
 
-fn both_of_reader(first: &str, second: &str, random: &mut Random) -> Files {
-    let plan = base(&[first, second], random);
-    let counts = split(plan.schedule.len(), random);
+fn both_of_reader(width: Width, first: &str, second: &str, random: &mut Random) -> Files {
+    let plan = base(width, &[first, second], random);
+    let counts = split(width, plan.schedule.len(), random);
     let records = plan.records(&counts);
     let parts = parts(&plan, &records);
     let (later, fault) = chosen(second, &parts, false, random)?;
@@ -178,13 +192,13 @@ fn both_of_reader(first: &str, second: &str, random: &mut Random) -> Files {
     Some((list.concat(), alone))
 }
 
-fn double(first: &str, second: &str, random: &mut Random) -> Files {
-    let mut plan = base(&[second], random);
-    // Only an OP can be one too many and out of order at once.
-    if (first, second) == ("9", "2") {
+fn double(width: Width, first: &str, second: &str, random: &mut Random) -> Files {
+    let mut plan = base(width, &[second], random);
+    // Only an OP can be one too many and out of order or wrong at once.
+    if matches!((first, second), ("9" | "11", "2")) {
         most_operations(&mut plan);
     }
-    let counts = split(plan.schedule.len(), random);
+    let counts = split(width, plan.schedule.len(), random);
     let records = plan.records(&counts);
     let (both, alone) = parts(&plan, &records).double((first, second), random);
     let put = |fault: Fault, random: &mut Random| {
@@ -198,9 +212,9 @@ fn double(first: &str, second: &str, random: &mut Random) -> Files {
 }
 
 /// The last entries that are allowed take the file over its size.
-fn oversize(second: &str, random: &mut Random) -> Files {
+fn oversize(width: Width, second: &str, random: &mut Random) -> Files {
     const LEFT: usize = 384;
-    let mut plan = base(&[], random);
+    let mut plan = base(width, &[], random);
     if second == "2" {
         most_operations(&mut plan);
     }

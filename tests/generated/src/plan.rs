@@ -3,6 +3,7 @@
 use std::collections::BTreeMap;
 
 use crate::random::Random;
+use crate::width::Width;
 
 pub const MOST_OPERATIONS: usize = 64;
 pub const MOST_ENTRIES: usize = 16_384;
@@ -14,7 +15,8 @@ pub const GONE: u16 = 65_535;
 #[derive(Clone, Copy)]
 pub struct Cell {
     pub key: u16,
-    pub total: u16,
+    /// With a flag, `FLAG` more than its number.
+    pub total: u64,
 }
 
 /// One operation ("row").
@@ -22,11 +24,13 @@ pub struct Cell {
 pub struct Operation {
     pub kind: u8,
     pub key: u16,
-    pub amount: u16,
+    /// As a cell's total.
+    pub amount: u64,
 }
 
 #[derive(Clone)]
 pub struct Plan {
+    pub width: Width,
     /// The table has 2^k cells.
     pub k: u8,
     /// The cells that are not empty, by number.
@@ -46,9 +50,10 @@ impl Plan {
 
     /// The records, with the schedule cut into SC records of these counts.
     pub fn records(&self, counts: &[usize]) -> Records {
-        let mut list = vec![table(self.k)];
-        list.extend(self.cells.iter().map(|(&at, &held)| cell(at, held)));
-        list.extend(self.operations.iter().map(|&held| operation(held)));
+        let width = self.width;
+        let mut list = vec![table(width, self.k)];
+        list.extend(self.cells.iter().map(|(&at, &held)| cell(width, at, held)));
+        list.extend(self.operations.iter().map(|&held| operation(width, held)));
         let mut rest = &self.schedule[..];
         for &count in counts {
             let (now, later) = rest.split_at(count);
@@ -64,12 +69,12 @@ impl Plan {
 
     /// The whole file, with the schedule cut at random.
     pub fn file(&self, random: &mut Random) -> Vec<u8> {
-        let counts = split(self.schedule.len(), random);
+        let counts = split(self.width, self.schedule.len(), random);
         self.records(&counts).file()
     }
 }
 
-/// The records of a file. The TB is at position 0, the first CL at 1.
+/// The records of a file. The TB or TW is at position 0, the first CL at 1.
 #[derive(Clone)]
 pub struct Records {
     pub list: Vec<Vec<u8>>,
@@ -85,21 +90,21 @@ impl Records {
     }
 }
 
-pub fn table(k: u8) -> Vec<u8> {
-    vec![b'T', b'B', k]
+pub fn table(width: Width, k: u8) -> Vec<u8> {
+    [&width.mark()[..], &[k]].concat()
 }
 
-pub fn cell(at: u16, cell: Cell) -> Vec<u8> {
-    let fields = [at, cell.key, cell.total];
+pub fn cell(width: Width, at: u16, cell: Cell) -> Vec<u8> {
     let mut record = b"CL".to_vec();
-    record.extend(fields.iter().flat_map(|field| field.to_be_bytes()));
+    record.extend([at, cell.key].iter().flat_map(|field| field.to_be_bytes()));
+    record.extend(width.spelled(cell.total));
     record
 }
 
-pub fn operation(operation: Operation) -> Vec<u8> {
+pub fn operation(width: Width, operation: Operation) -> Vec<u8> {
     let mut record = vec![b'O', b'P', operation.kind];
     record.extend(operation.key.to_be_bytes());
-    record.extend(operation.amount.to_be_bytes());
+    record.extend(width.spelled(operation.amount));
     record
 }
 
@@ -111,14 +116,18 @@ pub fn entries(rows: &[u8]) -> Vec<u8> {
 
 /// Cuts a number of entries into counts of 1 to 255: all ones, all as long as
 /// can be, short, or of any length.
-pub fn split(entries: usize, random: &mut Random) -> Vec<usize> {
+pub fn split(width: Width, entries: usize, random: &mut Random) -> Vec<usize> {
     // A schedule of the greatest length in single entries is over the size of
-    // a file.
-    let shortest = if entries > 4_096 { 4 } else { 1 };
+    // a file, and beside all cells of a wide table so are entries by the four.
+    let shortest = match (entries > 4_096, width) {
+        (false, _) => 1,
+        (true, Width::Narrow) => 4,
+        (true, Width::Wide) => 16,
+    };
     let (low, high) = match random.below(5) {
         0 => (shortest, shortest),
         1 => (255, 255),
-        2 | 3 => (shortest, 9),
+        2 | 3 => (shortest, shortest.max(9)),
         _ => (1, 255),
     };
     let mut counts = Vec::new();

@@ -4,10 +4,11 @@ use crate::plan::{split_exactly, Plan, MOST_BYTES, MOST_ENTRIES};
 use crate::random::Random;
 use crate::recipes::{plan, Recipe, PLAIN};
 use crate::schedules::schedule;
+use crate::width::Width;
 
 /// A run file of exactly this many bytes that is sound but for its size. Above
 /// 65,535 it needs many cells, since the schedule alone has not as many bytes.
-fn exactly(bytes: usize, random: &mut Random) -> Vec<u8> {
+fn exactly(width: Width, bytes: usize, random: &mut Random) -> Vec<u8> {
     let recipe = match bytes > MOST_BYTES + 40 {
         true => Recipe {
             sizes: &[12],
@@ -20,7 +21,7 @@ fn exactly(bytes: usize, random: &mut Random) -> Vec<u8> {
             ..PLAIN
         },
     };
-    let mut plan = plan(&recipe, random);
+    let mut plan = plan(width, &recipe, random);
     let rest = bytes - length_without_schedule(&plan);
     // Three bytes for each record and one for each entry.
     let fewest = rest
@@ -35,21 +36,22 @@ fn exactly(bytes: usize, random: &mut Random) -> Vec<u8> {
 }
 
 fn length_without_schedule(plan: &Plan) -> usize {
-    3 + 8 * plan.cells.len() + 7 * plan.operations.len()
+    let cells = plan.width.cell_bytes() * plan.cells.len();
+    3 + cells + plan.width.operation_bytes() * plan.operations.len()
 }
 
-pub fn sized(number: usize, random: &mut Random) -> Vec<u8> {
-    let mut file = exactly(MOST_BYTES, random);
+pub fn sized(width: Width, number: usize, random: &mut Random) -> Vec<u8> {
+    let mut file = exactly(width, MOST_BYTES, random);
     match number % 12 {
         0 | 1 => file,
-        2 | 3 => exactly(MOST_BYTES + 1, random),
+        2 | 3 => exactly(width, MOST_BYTES + 1, random),
         4 => {
             let bytes = random.between(MOST_BYTES + 2, MOST_BYTES + 16_000);
-            exactly(bytes, random)
+            exactly(width, bytes, random)
         }
         // A single byte of a mark, as the last that is allowed and past it.
         5 => {
-            let mut file = exactly(MOST_BYTES - 1, random);
+            let mut file = exactly(width, MOST_BYTES - 1, random);
             file.push(b'S');
             file
         }

@@ -4,6 +4,7 @@
 use crate::plan::{Cell, Plan, GONE};
 use crate::random::Random;
 use crate::tables::key_at;
+use crate::width::{Width, FLAG};
 
 /// Which of several records or elements.
 #[derive(Clone, Copy)]
@@ -28,7 +29,12 @@ impl Place {
 }
 
 /// How many ways there are for an operation to be wrong.
-pub const WAYS: usize = 7;
+fn ways(width: Width) -> usize {
+    match width {
+        Width::Narrow => 7,
+        Width::Wide => 10,
+    }
+}
 
 /// A plan to which faults are added so that none undoes another.
 pub struct Spoiled {
@@ -49,7 +55,7 @@ impl Spoiled {
     /// has no room for it.
     pub fn add(&mut self, number: &str, way: usize, place: Place, random: &mut Random) -> bool {
         match number {
-            "4" => self.total_without_key(place, random).is_some(),
+            "4" => self.cell_wrong(way, place, random).is_some(),
             "5" => self.operation(way, place, random),
             "6" => self.entry(way, place, random),
             "7" => self.key_twice(place, random).is_some(),
@@ -72,10 +78,25 @@ impl Spoiled {
         Some(at)
     }
 
-    fn total_without_key(&mut self, place: Place, random: &mut Random) -> Option<()> {
+    /// A tombstone with a total; in a wide file one with a flag too or alone,
+    /// or any key with the ceiling and no flag.
+    fn cell_wrong(&mut self, way: usize, place: Place, random: &mut Random) -> Option<()> {
         let at = self.cell(place, random)?;
-        let total = random.pick(&[1, 2, 65_535, 300]);
-        self.plan.cells.insert(at, Cell { key: GONE, total });
+        let held = match (self.plan.width, way % 3) {
+            (Width::Narrow, _) | (Width::Wide, 0) => Cell {
+                key: GONE,
+                total: random.pick(&[1, 2, 65_535, 300]),
+            },
+            (Width::Wide, 1) => Cell {
+                key: GONE,
+                total: random.pick(&[FLAG, FLAG, FLAG + 1, 2 * FLAG - 1]),
+            },
+            (Width::Wide, _) => Cell {
+                key: key_at(usize::from(at), self.plan.k, random),
+                total: FLAG - 1,
+            },
+        };
+        self.plan.cells.insert(at, held);
         Some(())
     }
 
@@ -83,14 +104,17 @@ impl Spoiled {
         let at = place.position(0, self.plan.operations.len() - 1, random);
         let operation = &mut self.plan.operations[at];
         let amount = random.pick(&[1, 255, 256, 65_535]);
-        match way % WAYS {
+        match way % ways(self.plan.width) {
             0 => operation.kind = 0,
             1 => operation.kind = 6,
             2 => operation.kind = 255,
             3 => operation.key = 0,
             4 => operation.key = 65_535,
             5 => (operation.kind, operation.amount) = (1, amount),
-            _ => (operation.kind, operation.amount) = (5, amount),
+            6 => (operation.kind, operation.amount) = (5, amount),
+            7 => (operation.kind, operation.amount) = (1, FLAG),
+            8 => (operation.kind, operation.amount) = (5, FLAG),
+            _ => (operation.kind, operation.amount) = (random.pick(&[2, 3, 4]), FLAG - 1),
         }
         true
     }
@@ -118,7 +142,7 @@ impl Spoiled {
         let (at, key) = random.pick(&live);
         self.kept.push(at);
         let again = self.cell(place, random)?;
-        let total = random.word();
+        let total = self.plan.width.any_total(random);
         self.plan.cells.insert(again, Cell { key, total });
         Some(())
     }
@@ -145,7 +169,7 @@ impl Spoiled {
         let back = (1..=most).take_while(free).count();
         let home = (usize::from(hole) + c - back) % c;
         let key = key_at(home, self.plan.k, random);
-        let total = random.word();
+        let total = self.plan.width.any_total(random);
         let new = !self.plan.holds(key);
         self.plan.cells.insert(at, Cell { key, total });
         new.then_some(())

@@ -50,15 +50,13 @@ pub fn keys(count: usize, homes: Homes, k: u8, random: &mut Random) -> Vec<u16> 
     keys
 }
 
-/// Puts a key in the first empty cell from its home on, if there is one.
-fn place(cells: &mut BTreeMap<u16, Cell>, k: u8, cell: Cell) {
-    let c = 1 << k;
-    let home = model::home(u32::from(cell.key), c);
-    let mut probed = (0..c).map(|passed| ((home + passed) % c) as u16);
-    let empty = probed.find(|at| !cells.contains_key(at));
-    if let Some(at) = empty {
-        cells.insert(at, cell);
-    }
+/// Puts a key in the first empty cell from its home on. There is one.
+fn place(cells: &mut [Option<Cell>], cell: Cell) {
+    let c = cells.len();
+    let home = model::home(u32::from(cell.key), c as u32) as usize;
+    let mut probed = (0..c).map(|passed| (home + passed) % c);
+    let empty = probed.find(|&at| cells[at].is_none());
+    cells[empty.expect("fewer cells are used than there are")] = Some(cell);
 }
 
 /// A table with `used` cells not empty, about `gone` in a hundred of them
@@ -68,30 +66,36 @@ pub fn table(
     k: u8,
     keys: &[u16],
     (used, gone): (usize, usize),
-    total: impl Fn(&mut Random) -> u16,
+    total: impl Fn(&mut Random) -> u64,
     random: &mut Random,
 ) -> BTreeMap<u16, Cell> {
-    let mut cells = BTreeMap::new();
-    // One flag for each key there is: tables of 4,096 cells are common enough.
+    // One place for each cell and one flag for each key there is: tables of 4,096
+    // cells are common enough.
+    let mut cells = vec![None; 1 << k];
     let mut taken = vec![false; 65_536];
+    let mut placed = 0;
     for &key in keys {
         taken[usize::from(key)] = true;
         let total = total(random);
-        if cells.len() < used && random.percent(70) {
-            place(&mut cells, k, Cell { key, total });
+        if placed < used && random.percent(70) {
+            place(&mut cells, Cell { key, total });
+            placed += 1;
         }
     }
-    while cells.len() < used {
+    while placed < used {
         let key = key_at(random.below(1 << k), k, random);
         let total = total(random);
         if !std::mem::replace(&mut taken[usize::from(key)], true) {
-            place(&mut cells, k, Cell { key, total });
+            place(&mut cells, Cell { key, total });
+            placed += 1;
         }
     }
-    for cell in cells.values_mut() {
+    for cell in cells.iter_mut().flatten() {
         if random.percent(gone) {
             (cell.key, cell.total) = (GONE, 0);
         }
     }
-    cells
+    let numbered = (0..).zip(cells);
+    let there = numbered.filter_map(|(at, cell)| Some((at, cell?)));
+    there.collect()
 }

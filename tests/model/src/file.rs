@@ -2,16 +2,17 @@
 //! afterwards, so that a refusal alters nothing.
 
 use crate::refuse::{MOST_ENTRIES, MOST_OPERATIONS};
-use crate::word::{pack, EMPTY};
+use crate::word::Word;
 
 const MOST_CELLS: usize = 4_096;
 const MOST_BYTES: usize = 65_535;
 
-/// The lengths of the records, mark included; a record of entries has as many
-/// bytes more as its count says.
+/// The lengths of the records, mark included. A cell's and an operation's end
+/// with a total or an amount, whose bytes the width says; a record of entries
+/// has as many bytes more as its count says.
 const TABLE_BYTES: usize = 3;
-const CELL_BYTES: usize = 8;
-const OPERATION_BYTES: usize = 7;
+const CELL_BYTES: usize = 6;
+const OPERATION_BYTES: usize = 5;
 const ENTRIES_BYTES: usize = 3;
 
 /// What the reader returns: the number and place of a refusal, or 0 and 0 and
@@ -48,7 +49,12 @@ struct Shape {
 }
 
 /// Reads a run file into the lent slices, or refuses and alters nothing.
-pub fn load(file: &[u8], cells: &mut [u32], operations: &mut [u64], schedule: &mut [u8]) -> Loaded {
+pub fn load<W: Word>(
+    file: &[u8],
+    cells: &mut [W],
+    operations: &mut [u64],
+    schedule: &mut [u8],
+) -> Loaded {
     let short = cells.len() < MOST_CELLS
         || operations.len() < MOST_OPERATIONS
         || schedule.len() < MOST_ENTRIES;
@@ -58,7 +64,7 @@ pub fn load(file: &[u8], cells: &mut [u32], operations: &mut [u64], schedule: &m
     if file.len() > MOST_BYTES {
         return refused(12, 0);
     }
-    match check(file) {
+    match check::<W>(file) {
         Ok(shape) => {
             fill(file, &shape, cells, operations, schedule);
             Loaded {
@@ -84,7 +90,7 @@ fn refused(number: u32, place: usize) -> Loaded {
 }
 
 /// Takes the records in file order up to the end, or to the first faulty one.
-fn check(file: &[u8]) -> Result<Shape, (u32, usize)> {
+fn check<W: Word>(file: &[u8]) -> Result<Shape, (u32, usize)> {
     let mut shape = Shape {
         before: None,
         c: 0,
@@ -96,7 +102,9 @@ fn check(file: &[u8]) -> Result<Shape, (u32, usize)> {
     let mut at = 0;
     // The first record is looked for even in an empty file.
     loop {
-        at += shape.record(&file[at..]).map_err(|number| (number, at))?;
+        at += shape
+            .record::<W>(&file[at..])
+            .map_err(|number| (number, at))?;
         if at == file.len() {
             return Ok(shape);
         }
@@ -106,9 +114,9 @@ fn check(file: &[u8]) -> Result<Shape, (u32, usize)> {
 impl Shape {
     /// Checks the record that `rest` opens with and gives its length, or the
     /// number of the refusal.
-    fn record(&mut self, rest: &[u8]) -> Result<usize, u32> {
+    fn record<W: Word>(&mut self, rest: &[u8]) -> Result<usize, u32> {
         let sort = match rest.get(..2).ok_or(10_u32)? {
-            b"TB" => Sort::Table,
+            mark if mark == W::MARK => Sort::Table,
             b"CL" => Sort::Cell,
             b"OP" => Sort::Operation,
             b"SC" => Sort::Entries,
@@ -119,11 +127,11 @@ impl Shape {
         }
         let length = match sort {
             Sort::Table => TABLE_BYTES,
-            Sort::Cell => CELL_BYTES,
-            Sort::Operation => OPERATION_BYTES,
+            Sort::Cell => CELL_BYTES + W::TOTAL_BYTES,
+            Sort::Operation => OPERATION_BYTES + W::TOTAL_BYTES,
             Sort::Entries => ENTRIES_BYTES + usize::from(*rest.get(2).ok_or(10_u32)?),
         };
-        self.body(sort, rest.get(2..length).ok_or(10_u32)?)?;
+        self.body::<W>(sort, rest.get(2..length).ok_or(10_u32)?)?;
         self.before = Some(sort);
         Ok(length)
     }
@@ -136,7 +144,7 @@ impl Shape {
         }
     }
 
-    fn body(&mut self, sort: Sort, body: &[u8]) -> Result<(), u32> {
+    fn body<W: Word>(&mut self, sort: Sort, body: &[u8]) -> Result<(), u32> {
         match sort {
             Sort::Table => match body[0] {
                 k @ 0..=12 => self.c = 1 << k,
@@ -144,13 +152,17 @@ impl Shape {
             },
             Sort::Cell => {
                 let number = usize::from(pair(body, 0));
-                if number < self.lowest || number >= self.c || pair(body, 2) == 0 {
+                let named = number >= self.lowest && number < self.c && pair(body, 2) != 0;
+                if !named || !W::is_total_bytes(&body[4..]) {
                     return Err(11);
                 }
                 self.lowest = number + 1;
                 self.named += 1;
             }
             Sort::Operation => {
+                if !W::is_total_bytes(&body[3..]) {
+                    return Err(11);
+                }
                 if self.operations == MOST_OPERATIONS {
                     return Err(2);
                 }
@@ -177,26 +189,30 @@ fn pair(bytes: &[u8], at: usize) -> u16 {
 }
 
 /// Writes what a file that passed the check says.
-fn fill(
+fn fill<W: Word>(
     file: &[u8],
     shape: &Shape,
-    cells: &mut [u32],
+    cells: &mut [W],
     operations: &mut [u64],
     schedule: &mut [u8],
 ) {
+    let cell_bytes = CELL_BYTES + W::TOTAL_BYTES;
+    let operation_bytes = OPERATION_BYTES + W::TOTAL_BYTES;
     let rest = &file[TABLE_BYTES..];
-    let (named, rest) = rest.split_at(shape.named * CELL_BYTES);
-    let (rows, mut rest) = rest.split_at(shape.operations * OPERATION_BYTES);
-    cells[..shape.c].fill(EMPTY);
-    for record in named.chunks_exact(CELL_BYTES) {
-        cells[usize::from(pair(record, 2))] = pack(pair(record, 4), pair(record, 6));
+    let (named, rest) = rest.split_at(shape.named * cell_bytes);
+    let (rows, mut rest) = rest.split_at(shape.operations * operation_bytes);
+    cells[..shape.c].fill(W::EMPTY);
+    for record in named.chunks_exact(cell_bytes) {
+        let total = W::total_of_bytes(&record[CELL_BYTES..]);
+        cells[usize::from(pair(record, 2))] = W::pack(pair(record, 4), total);
     }
     for (operation, record) in operations
         .iter_mut()
-        .zip(rows.chunks_exact(OPERATION_BYTES))
+        .zip(rows.chunks_exact(operation_bytes))
     {
-        let key_and_amount = u64::from(pack(pair(record, 3), pair(record, 5)));
-        *operation = u64::from(record[2]) << 32 | key_and_amount;
+        let amount: u64 = W::total_of_bytes(&record[OPERATION_BYTES..]).into();
+        let kind_and_key = u64::from(record[2]) << 16 | u64::from(pair(record, 3));
+        *operation = kind_and_key << W::TOTAL_BITS | amount;
     }
     let mut written = 0;
     while !rest.is_empty() {

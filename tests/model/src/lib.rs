@@ -1,6 +1,7 @@
 //! A second model of the shared room table, written from its specification and
 //! not from the proved code. It answers what a run, a run file or a listing must
-//! give, so that another program can be compared with it.
+//! give, so that another program can be compared with it. It is written once for
+//! both widths of words, which `Word` tells apart.
 //!
 //! The names are the usual ones of the field; where the specification has a
 //! word of its own, the comment at the definition gives it.
@@ -19,4 +20,4 @@ pub use list::list;
 pub use refuse::refusal;
 pub use report::report;
 pub use run::{run, stops, Outcome};
-pub use word::{home, sum};
+pub use word::{home, sum, Word};

@@ -1,7 +1,8 @@
 //! The text of a run or of a refusal.
 
 use crate::run::Outcome;
-use crate::word::{key_of, total_of, EMPTY, SATURATED, TOMBSTONE};
+use crate::step::{key_of, kind_number};
+use crate::word::Word;
 
 /// The names of the kinds of operation, from kind 1.
 const KINDS: [&str; 5] = ["find", "insert", "update", "add", "remove"];
@@ -21,11 +22,11 @@ const ANSWERS: [&str; 9] = [
 
 /// Appends the text of a run, from its outcome and the slices as the run left
 /// them, or the one line of a refusal.
-pub fn list(
+pub fn list<W: Word>(
     outcome: &Outcome,
-    cells: &[u32],
+    cells: &[W],
     operations: &[u64],
-    answers: &[u32],
+    answers: &[W],
     log: &[u8],
     out: &mut Vec<u8>,
 ) {
@@ -49,31 +50,29 @@ pub fn list(
     }
     out.push(b'\n');
     for (number, &word) in cells.iter().enumerate() {
-        if word != EMPTY {
+        if word != W::EMPTY {
             list_cell(number, word, out);
         }
     }
 }
 
-fn list_operation(number: usize, operation: u64, answer: u32, out: &mut Vec<u8>) {
-    let kind = (operation >> 32) as usize;
-    let key_and_amount = operation as u32;
+fn list_operation<W: Word>(number: usize, operation: u64, answer: W, out: &mut Vec<u8>) {
     field(out, "row", number);
-    word(out, KINDS[kind - 1]);
-    field(out, "", usize::from(key_of(key_and_amount)));
-    total(out, total_of(key_and_amount));
-    word(out, ANSWERS[usize::from(key_of(answer))]);
-    total(out, total_of(answer));
+    word(out, KINDS[kind_number::<W>(operation) as usize - 1]);
+    field(out, "", usize::from(key_of::<W>(operation)));
+    total::<W>(out, W::amount(operation));
+    word(out, ANSWERS[answer.code() as usize]);
+    total::<W>(out, answer.total());
     out.push(b'\n');
 }
 
-fn list_cell(number: usize, cell: u32, out: &mut Vec<u8>) {
+fn list_cell<W: Word>(number: usize, cell: W, out: &mut Vec<u8>) {
     field(out, "cell", number);
-    if cell == TOMBSTONE {
+    if cell == W::TOMBSTONE {
         word(out, "gone");
     } else {
-        field(out, "", usize::from(key_of(cell)));
-        total(out, total_of(cell));
+        field(out, "", usize::from(cell.key()));
+        total::<W>(out, cell.total());
     }
     out.push(b'\n');
 }
@@ -84,12 +83,14 @@ fn word(out: &mut Vec<u8>, text: &str) {
     out.extend_from_slice(text.as_bytes());
 }
 
-/// A space and a total or an amount.
-fn total(out: &mut Vec<u8>, total: u16) {
-    if total == SATURATED {
-        word(out, "pinned");
-    } else {
-        field(out, "", usize::from(total));
+/// A space and a total or an amount. Only where a flag says that it is
+/// saturated is its number worth telling too.
+fn total<W: Word>(out: &mut Vec<u8>, total: W::Total) {
+    let number = W::number(total) as usize;
+    match (W::is_saturated(total), W::FLAGGED) {
+        (false, _) => field(out, "", number),
+        (true, false) => word(out, "pinned"),
+        (true, true) => field(out, " atleast", number),
     }
 }
 

@@ -2,7 +2,7 @@
 
 use crate::refuse::{refusal, MOST_OPERATIONS};
 use crate::step::{answer, Operation, Progress, Turn};
-use crate::word::Homes;
+use crate::word::{Homes, Word};
 
 /// What a run returns. A refused run has its number and place and counts of 0;
 /// an accepted one has number 0 and place 0.
@@ -31,24 +31,24 @@ impl Outcome {
 }
 
 /// A run under way, apart from what is lent to it.
-pub(crate) struct State {
-    progress: [Option<Progress>; MOST_OPERATIONS],
+pub(crate) struct State<W: Word> {
+    progress: [Option<Progress<W>>; MOST_OPERATIONS],
     /// The set of finished operations, one bit each.
     finished: u64,
     lost: usize,
     idle: usize,
 }
 
-impl State {
+impl<W: Word> State<W> {
     /// The state before the first entry of an accepted call; every answer says
     /// unfinished.
-    pub(crate) fn start(c: usize, operations: &[u64], answers: &mut [u32]) -> State {
+    pub(crate) fn start(c: usize, operations: &[u64], answers: &mut [W]) -> State<W> {
         let homes = Homes::of(c);
         let mut progress = [None; MOST_OPERATIONS];
         for (slot, &word) in progress.iter_mut().zip(operations) {
             *slot = Operation::decode(word).map(|operation| Progress::start(operation, homes));
         }
-        answers[..operations.len()].fill(answer::UNFINISHED);
+        answers[..operations.len()].fill(answer::unfinished());
         State {
             progress,
             finished: 0,
@@ -59,13 +59,7 @@ impl State {
 
     /// Takes one schedule entry. The linearization order ("log") gains an
     /// operation at the step that finishes it.
-    pub(crate) fn entry(
-        &mut self,
-        entry: u8,
-        cells: &mut [u32],
-        answers: &mut [u32],
-        log: &mut [u8],
-    ) {
+    pub(crate) fn entry(&mut self, entry: u8, cells: &mut [W], answers: &mut [W], log: &mut [u8]) {
         let row = usize::from(entry);
         let bit = 1 << row;
         if self.finished & bit != 0 {
@@ -104,11 +98,11 @@ impl State {
 /// Runs the schedule on the cells, or refuses and alters nothing. One answer
 /// for each operation ("row") and one log byte for each finished operation are
 /// written; what is lent beyond them keeps its contents.
-pub fn run(
-    cells: &mut [u32],
+pub fn run<W: Word>(
+    cells: &mut [W],
     operations: &[u64],
     schedule: &[u8],
-    answers: &mut [u32],
+    answers: &mut [W],
     log: &mut [u8],
 ) -> Outcome {
     if let Some((number, place)) = refusal(cells, operations, schedule, answers.len(), log.len()) {
@@ -124,13 +118,13 @@ pub fn run(
 /// A run stopped after every entry, and before the first: what it would return
 /// there, and the cells, the answers and the log that stand in the slices. A
 /// refused run has no stops.
-pub fn stops(
-    cells: &mut [u32],
+pub fn stops<W: Word>(
+    cells: &mut [W],
     operations: &[u64],
     schedule: &[u8],
-    answers: &mut [u32],
+    answers: &mut [W],
     log: &mut [u8],
-) -> Vec<(Outcome, Vec<u32>, Vec<u32>, Vec<u8>)> {
+) -> Vec<(Outcome, Vec<W>, Vec<W>, Vec<u8>)> {
     let mut stops = Vec::new();
     if refusal(cells, operations, schedule, answers.len(), log.len()).is_none() {
         let mut state = State::start(cells.len(), operations, answers);

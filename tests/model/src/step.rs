@@ -1,6 +1,6 @@
 //! One atomic step of one operation.
 
-use crate::word::{became_saturated, is_live, key_of, pack, total_of, Homes, EMPTY, TOMBSTONE};
+use crate::word::{became_saturated, is_live, Homes, Word};
 
 #[derive(Clone, Copy, Debug, PartialEq, Eq)]
 pub(crate) enum Kind {
@@ -13,17 +13,17 @@ pub(crate) enum Kind {
 
 /// One operation on the table ("row").
 #[derive(Clone, Copy, Debug)]
-pub(crate) struct Operation {
+pub(crate) struct Operation<W: Word> {
     pub(crate) kind: Kind,
     pub(crate) key: u16,
-    pub(crate) amount: u16,
+    pub(crate) amount: W::Total,
 }
 
-impl Operation {
+impl<W: Word> Operation<W> {
     /// The fields of an operation's word, or nothing where they are not allowed.
-    pub(crate) fn decode(word: u64) -> Option<Operation> {
+    pub(crate) fn decode(word: u64) -> Option<Operation<W>> {
         // Bits above the kind's eight make this number larger than any kind.
-        let kind = match word >> 32 {
+        let kind = match kind_number::<W>(word) {
             1 => Kind::Find,
             2 => Kind::Insert,
             3 => Kind::Update,
@@ -31,70 +31,96 @@ impl Operation {
             5 => Kind::Remove,
             _ => return None,
         };
-        let (key, amount) = ((word >> 16) as u16, word as u16);
-        let amount_allowed = amount == 0 || !matches!(kind, Kind::Find | Kind::Remove);
+        let (key, amount) = (key_of::<W>(word), W::amount(word));
+        let amount_allowed = match kind {
+            Kind::Find | Kind::Remove => amount == W::ZERO,
+            Kind::Insert | Kind::Update | Kind::Add => W::is_total(amount),
+        };
         (is_live(key) && amount_allowed).then_some(Operation { kind, key, amount })
     }
 }
 
-/// An answer is its code in the upper sixteen bits and a total in the lower.
+/// All that stands above the key in an operation's word.
+#[inline]
+pub(crate) fn kind_number<W: Word>(operation: u64) -> u64 {
+    operation >> (W::TOTAL_BITS + 16)
+}
+
+/// The key of an operation's word, which stands right above the amount.
+#[inline]
+pub(crate) fn key_of<W: Word>(operation: u64) -> u16 {
+    (operation >> W::TOTAL_BITS) as u16
+}
+
+/// The answers: a code, and a total where the code carries one.
 pub(crate) mod answer {
-    use crate::word::pack;
+    use crate::word::Word;
 
-    pub(crate) const UNFINISHED: u32 = pack(0, 0);
-    pub(crate) const INSERTED: u32 = pack(2, 0);
-    pub(crate) const ABSENT: u32 = pack(6, 0);
-    pub(crate) const FULL: u32 = pack(7, 0);
-
-    pub(crate) fn found(total: u16) -> u32 {
-        pack(1, total)
+    pub(crate) fn unfinished<W: Word>() -> W {
+        W::answer(0, W::ZERO)
     }
 
-    pub(crate) fn present(total: u16) -> u32 {
-        pack(3, total)
+    pub(crate) fn found<W: Word>(total: W::Total) -> W {
+        W::answer(1, total)
     }
 
-    pub(crate) fn changed(total: u16) -> u32 {
-        pack(4, total)
+    pub(crate) fn inserted<W: Word>() -> W {
+        W::answer(2, W::ZERO)
     }
 
-    pub(crate) fn removed(total: u16) -> u32 {
-        pack(5, total)
+    pub(crate) fn present<W: Word>(total: W::Total) -> W {
+        W::answer(3, total)
+    }
+
+    pub(crate) fn changed<W: Word>(total: W::Total) -> W {
+        W::answer(4, total)
+    }
+
+    pub(crate) fn removed<W: Word>(total: W::Total) -> W {
+        W::answer(5, total)
+    }
+
+    pub(crate) fn absent<W: Word>() -> W {
+        W::answer(6, W::ZERO)
+    }
+
+    pub(crate) fn full<W: Word>() -> W {
+        W::answer(7, W::ZERO)
     }
 
     /// Of the add "that turns a true total into a pinned one"; the total is the
     /// old one.
-    pub(crate) fn capped(total: u16) -> u32 {
-        pack(8, total)
+    pub(crate) fn capped<W: Word>(total: W::Total) -> W {
+        W::answer(8, total)
     }
 }
 
 /// What a step did for its operation ("turns in one of four ways").
-pub(crate) enum Turn {
+pub(crate) enum Turn<W> {
     Passed,
     Held,
     Lost,
-    Finished(u32),
+    Finished(W),
 }
 
 #[derive(Clone, Copy)]
-enum Stage {
+enum Stage<W> {
     Reading,
     /// The word the swap expects to find ("holds a word it has seen").
-    Swapping(u32),
+    Swapping(W),
 }
 
 /// How far one operation has come ("a row's record").
 #[derive(Clone, Copy)]
-pub(crate) struct Progress {
-    operation: Operation,
-    stage: Stage,
+pub(crate) struct Progress<W: Word> {
+    operation: Operation<W>,
+    stage: Stage<W>,
     cell: usize,
     passed: usize,
 }
 
-impl Progress {
-    pub(crate) fn start(operation: Operation, homes: Homes) -> Progress {
+impl<W: Word> Progress<W> {
+    pub(crate) fn start(operation: Operation<W>, homes: Homes) -> Progress<W> {
         Progress {
             operation,
             stage: Stage::Reading,
@@ -104,43 +130,43 @@ impl Progress {
     }
 
     /// Takes the next step of an operation that has not finished.
-    pub(crate) fn step(&mut self, cells: &mut [u32]) -> Turn {
+    pub(crate) fn step(&mut self, cells: &mut [W]) -> Turn<W> {
         match self.stage {
             Stage::Reading => self.read(cells),
             Stage::Swapping(held) => self.swap(held, cells),
         }
     }
 
-    fn read(&mut self, cells: &[u32]) -> Turn {
+    fn read(&mut self, cells: &[W]) -> Turn<W> {
         let word = cells[self.cell];
-        if word == EMPTY {
+        if word == W::EMPTY {
             return match self.operation.kind {
-                Kind::Find | Kind::Update | Kind::Remove => Turn::Finished(answer::ABSENT),
+                Kind::Find | Kind::Update | Kind::Remove => Turn::Finished(answer::absent()),
                 Kind::Insert | Kind::Add => self.hold(word),
             };
         }
         // A tombstone's key is not live, so it is never the operation's own.
-        if key_of(word) != self.operation.key {
+        if word.key() != self.operation.key {
             return self.pass(cells.len());
         }
         match self.operation.kind {
-            Kind::Find => Turn::Finished(answer::found(total_of(word))),
-            Kind::Insert => Turn::Finished(answer::present(total_of(word))),
+            Kind::Find => Turn::Finished(answer::found(word.total())),
+            Kind::Insert => Turn::Finished(answer::present(word.total())),
             Kind::Update | Kind::Add | Kind::Remove => self.hold(word),
         }
     }
 
-    fn hold(&mut self, word: u32) -> Turn {
+    fn hold(&mut self, word: W) -> Turn<W> {
         self.stage = Stage::Swapping(word);
         Turn::Held
     }
 
-    fn pass(&mut self, c: usize) -> Turn {
+    fn pass(&mut self, c: usize) -> Turn<W> {
         self.passed += 1;
         if self.passed == c {
             return Turn::Finished(match self.operation.kind {
-                Kind::Insert | Kind::Add => answer::FULL,
-                Kind::Find | Kind::Update | Kind::Remove => answer::ABSENT,
+                Kind::Insert | Kind::Add => answer::full(),
+                Kind::Find | Kind::Update | Kind::Remove => answer::absent(),
             });
         }
         // c is a power of two: after the last cell comes cell 0.
@@ -148,7 +174,7 @@ impl Progress {
         Turn::Passed
     }
 
-    fn swap(&mut self, held: u32, cells: &mut [u32]) -> Turn {
+    fn swap(&mut self, held: W, cells: &mut [W]) -> Turn<W> {
         let cell = &mut cells[self.cell];
         if *cell != held {
             // The same cell is read again: the key may stand in it by now.
@@ -156,21 +182,21 @@ impl Progress {
             return Turn::Lost;
         }
         let Operation { kind, key, amount } = self.operation;
-        let old = total_of(held);
-        let (word, answer) = if held == EMPTY {
-            (pack(key, amount), answer::INSERTED)
+        let old = held.total();
+        let (word, answer) = if held == W::EMPTY {
+            (W::pack(key, amount), answer::inserted())
         } else {
             match kind {
-                Kind::Remove => (TOMBSTONE, answer::removed(old)),
+                Kind::Remove => (W::TOMBSTONE, answer::removed(old)),
                 Kind::Add => {
-                    let new = old.saturating_add(amount);
-                    if became_saturated(old, new) {
-                        (pack(key, new), answer::capped(old))
+                    let new = W::sum(old, amount);
+                    if became_saturated::<W>(old, new) {
+                        (W::pack(key, new), answer::capped(old))
                     } else {
-                        (pack(key, new), answer::changed(old))
+                        (W::pack(key, new), answer::changed(old))
                     }
                 }
-                _ => (pack(key, amount), answer::changed(old)),
+                _ => (W::pack(key, amount), answer::changed(old)),
             }
         };
         *cell = word;

@@ -3,41 +3,59 @@
 
 mod support {
     pub mod answers;
+    pub mod narrow;
+    pub mod widths;
     pub mod words;
 }
 
 use model::demands::{
     agrees_with_map, linearizable, linearizable_at_every_prefix, totals, totals_kept, After,
 };
-use support::answers::answer;
-use support::words::{operation, table, GONE};
+use support::answers::reply;
+use support::narrow::{answer, operation, table};
+use support::widths::at_both_widths;
+use support::words::{cell, filled, row, Width, FLAG};
+
+at_both_widths![
+    right_ends_of_either_width_agree_with_the_map,
+    a_wrong_log_is_rejected,
+    wrong_answers_are_rejected,
+    wrong_cells_are_rejected,
+    full_is_right_only_where_no_cell_is_left,
+    refused_calls_are_no_runs,
+    totals_are_silent_without_their_hypotheses,
+    cells_suffice_for_new_rooms_counted_once,
+];
+
+/// The cells at the start, the operations, and what is said to be left.
+type Case<W> = (Vec<W>, [u64; 2], After<W>);
 
 /// The worked case of a remove and an insert behind a tombstone, as it ends.
-fn removed_and_present() -> (Vec<u32>, [u64; 2], After) {
+fn removed_and_present<W: Width>() -> Case<W> {
     let after = After {
         done: 2,
-        cells: table(8, &[(4, 65_535, 0), (5, 9, 25)]),
-        answers: vec![answer("removed", 40), answer("present", 25)],
+        cells: filled(8, &[(4, 65_535, 0), (5, 9, 25)]),
+        answers: vec![reply("removed", 40), reply("present", 25)],
         log: vec![0, 1],
     };
-    let operations = [operation("remove", 1, 0), operation("insert", 9, 7)];
-    (table(8, &[(4, 1, 40), (5, 9, 25)]), operations, after)
+    let operations = [row::<W>("remove", 1, 0), row::<W>("insert", 9, 7)];
+    (filled(8, &[(4, 1, 40), (5, 9, 25)]), operations, after)
 }
 
 /// The worked case of two adds, as it ends.
-fn two_adds() -> (Vec<u32>, [u64; 2], After) {
+fn two_adds<W: Width>() -> Case<W> {
     let after = After {
         done: 2,
-        cells: table(8, &[(4, 1, 52)]),
-        answers: vec![answer("changed", 40), answer("changed", 45)],
+        cells: filled(8, &[(4, 1, 52)]),
+        answers: vec![reply("changed", 40), reply("changed", 45)],
         log: vec![0, 1],
     };
-    let operations = [operation("add", 1, 5), operation("add", 1, 7)];
-    (table(8, &[(4, 1, 40)]), operations, after)
+    let operations = [row::<W>("add", 1, 5), row::<W>("add", 1, 7)];
+    (filled(8, &[(4, 1, 40)]), operations, after)
 }
 
 /// Two adds of which the first hits the ceiling, as they end.
-fn capped_and_changed() -> (Vec<u32>, [u64; 2], After) {
+fn capped_and_changed() -> Case<u32> {
     let after = After {
         done: 2,
         cells: table(8, &[(4, 1, 65_535)]),
@@ -50,7 +68,7 @@ fn capped_and_changed() -> (Vec<u32>, [u64; 2], After) {
 
 /// An add to one below the ceiling and an insertion of a pinned amount, as they
 /// end.
-fn below_and_inserted() -> (Vec<u32>, [u64; 2], After) {
+fn below_and_inserted() -> Case<u32> {
     let after = After {
         done: 2,
         cells: table(8, &[(4, 1, 65_534), (5, 9, 65_535)]),
@@ -61,10 +79,42 @@ fn below_and_inserted() -> (Vec<u32>, [u64; 2], After) {
     (table(8, &[(4, 1, 40)]), operations, after)
 }
 
+/// Two wide adds, one of a flagged amount to a true total and one of a true
+/// amount to a flagged total, as they end.
+fn flagged_both_ways() -> Case<u64> {
+    let after = After {
+        done: 2,
+        cells: filled(8, &[(4, 1, FLAG + 7), (5, 9, FLAG + 70)]),
+        answers: vec![reply("capped", 3), reply("changed", FLAG + 30)],
+        log: vec![0, 1],
+    };
+    let operations = [row::<u64>("add", 1, FLAG + 4), row::<u64>("add", 9, 40)];
+    (
+        filled(8, &[(4, 1, 3), (5, 9, FLAG + 30)]),
+        operations,
+        after,
+    )
+}
+
+/// A wide add that hits the ceiling, and one that comes next to it, as they end.
+fn wide_at_and_below() -> Case<u64> {
+    let after = After {
+        done: 2,
+        cells: filled(8, &[(4, 1, u64::PINNED), (5, 9, 4_294_967_294)]),
+        answers: vec![reply("capped", 40), reply("changed", 0)],
+        log: vec![0, 1],
+    };
+    let operations = [
+        row::<u64>("add", 1, 4_294_967_255),
+        row::<u64>("add", 9, 4_294_967_294),
+    ];
+    (filled(8, &[(4, 1, 40), (5, 9, 0)]), operations, after)
+}
+
 /// The checker says that the case, spoiled so, differs from the map in this.
-fn assert_differs(
-    (start, operations, mut after): (Vec<u32>, [u64; 2], After),
-    spoil: fn(&mut After),
+fn assert_differs<W: Width>(
+    (start, operations, mut after): Case<W>,
+    spoil: fn(&mut After<W>),
     what: &str,
 ) {
     spoil(&mut after);
@@ -72,21 +122,24 @@ fn assert_differs(
     assert!(said.contains(what), "{said}");
 }
 
-#[test]
-fn right_ends_agree_with_the_map() {
-    for (start, operations, after) in [
-        removed_and_present(),
-        two_adds(),
-        capped_and_changed(),
-        below_and_inserted(),
-    ] {
+fn assert_agree<W: Width>(cases: [Case<W>; 2]) {
+    for (start, operations, after) in cases {
         assert_eq!(agrees_with_map(&start, &operations, &after), Ok(()));
     }
 }
 
+fn right_ends_of_either_width_agree_with_the_map<W: Width>() {
+    assert_agree::<W>([removed_and_present(), two_adds()]);
+}
+
 #[test]
-fn a_wrong_log_is_rejected() {
-    let log = |spoil, what| assert_differs(two_adds(), spoil, what);
+fn right_ends_at_the_ceiling_agree_with_the_map() {
+    assert_agree([capped_and_changed(), below_and_inserted()]);
+    assert_agree([flagged_both_ways(), wide_at_and_below()]);
+}
+
+fn a_wrong_log_is_rejected<W: Width>() {
+    let log = |spoil, what| assert_differs(two_adds::<W>(), spoil, what);
     log(|after| after.log = vec![1, 0], "operation 1 answers code 4");
     log(|after| after.log = vec![0, 0], "operation 0 twice");
     log(|after| after.log = vec![0, 2], "names 2, which is no");
@@ -100,22 +153,24 @@ fn a_wrong_log_is_rejected() {
     );
 }
 
-#[test]
-fn wrong_answers_are_rejected() {
-    let answers = |spoil, what| assert_differs(two_adds(), spoil, what);
-    answers(|after| after.answers[0] += 1, "answers code 4 total 41");
+fn wrong_answers_are_rejected<W: Width>() {
+    let answers = |spoil, what| assert_differs(two_adds::<W>(), spoil, what);
     answers(
-        |after| after.answers[1] = 0,
+        |after| after.answers[0] = reply("changed", 41),
+        "answers code 4 total 41",
+    );
+    answers(
+        |after| after.answers[1] = W::word(0),
         "operation 1 is in the log but not",
     );
     answers(
-        |after| after.answers[1] = answer("full", 0),
+        |after| after.answers[1] = reply("full", 0),
         "answers code 7",
     );
     answers(|after| after.answers.truncate(1), "one answer for each");
     answers(
         |after| {
-            after.answers[1] = answer("unfinished", 3);
+            after.answers[1] = reply("unfinished", 3);
             after.log = vec![0];
             after.done = 1;
         },
@@ -151,42 +206,96 @@ fn a_capped_answer_is_right_only_where_an_add_hit_the_ceiling() {
 }
 
 #[test]
-fn wrong_cells_are_rejected() {
-    let cells = |spoil, what| assert_differs(removed_and_present(), spoil, what);
-    // Filling the tombstone makes a second 9.
-    cells(|after| after.cells[4] = 9 * 65_536 + 7, "key 9 has two");
-    cells(|after| after.cells[4] = 65_536 + 40, "the map {9: 25}");
-    cells(|after| after.cells[5] = GONE, "hold the pairs {}");
-    cells(|after| after.cells[4] = 0, "1 cells are used, in the map 2");
-    cells(
-        |after| after.cells[6] = GONE,
-        "3 cells are used, in the map 2",
+fn a_wide_capped_answer_is_right_only_where_a_total_became_flagged() {
+    let flagged = |spoil, what| assert_differs(flagged_both_ways(), spoil, what);
+    flagged(
+        |after| after.answers[0] = reply("changed", 3),
+        "operation 0 answers code 4 total 3, the map code 8 total 3",
     );
-    cells(|after| after.cells.truncate(6), "number of cells");
-    assert_differs(
-        two_adds(),
-        |after| after.cells[4] = 65_536 + 45,
-        "hold the pairs {1: 45}, the map {1: 52}",
+    flagged(
+        |after| after.answers[0] = reply("capped", FLAG + 3),
+        "operation 0 answers code 8 total 3 flagged, the map code 8 total 3",
+    );
+    flagged(
+        |after| after.answers[1] = reply("capped", FLAG + 30),
+        "operation 1 answers code 8 total 30 flagged, the map code 4 total 30 flagged",
+    );
+    flagged(
+        |after| after.answers[1] = reply("changed", 30),
+        "operation 1 answers code 4 total 30, the map code 4 total 30 flagged",
+    );
+    let at_it = |spoil, what| assert_differs(wide_at_and_below(), spoil, what);
+    at_it(
+        |after| after.answers[0] = reply("changed", 40),
+        "operation 0 answers code 4 total 40, the map code 8 total 40",
+    );
+    at_it(
+        |after| after.answers[1] = reply("capped", 0),
+        "operation 1 answers code 8 total 0, the map code 4 total 0",
     );
 }
 
 #[test]
-fn full_is_right_only_where_no_cell_is_left() {
-    let adds = [operation("add", 9, 1)];
-    let after = |cells: &[u32], name| After {
+fn wrong_flags_and_wrong_wide_sums_are_rejected() {
+    let flagged = |spoil, what| assert_differs(flagged_both_ways(), spoil, what);
+    let map = "the map {1: 7 flagged, 9: 70 flagged}";
+    // A flag lost, of the amount and of the total.
+    flagged(|after| after.cells[4] = cell(1, 7), map);
+    flagged(|after| after.cells[5] = cell(9, 70), map);
+    // A flagged total held at the ceiling, or as it was.
+    flagged(|after| after.cells[4] = cell(1, u64::PINNED), map);
+    flagged(|after| after.cells[5] = cell(9, u64::PINNED), map);
+    flagged(|after| after.cells[5] = cell(9, FLAG + 30), map);
+    // A bit beside the fields.
+    flagged(
+        |after| after.cells[4] += 1 << 33,
+        "hold the pairs {1: 7 with 3 above, 9: 70 flagged}",
+    );
+    let at_it = |spoil, what| assert_differs(wide_at_and_below(), spoil, what);
+    let map = "the map {1: 4294967295 flagged, 9: 4294967294}";
+    at_it(|after| after.cells[4] = cell(1, 4_294_967_295), map);
+    at_it(|after| after.cells[4] = cell(1, 0), map);
+    at_it(|after| after.cells[5] = cell(9, FLAG + 4_294_967_294), map);
+}
+
+fn wrong_cells_are_rejected<W: Width>() {
+    let cells = |spoil, what| assert_differs(removed_and_present::<W>(), spoil, what);
+    // Filling the tombstone makes a second 9.
+    cells(|after| after.cells[4] = cell(9, 7), "key 9 has two");
+    cells(|after| after.cells[4] = cell(1, 40), "the map {9: 25}");
+    cells(|after| after.cells[5] = W::GONE, "hold the pairs {}");
+    cells(
+        |after| after.cells[4] = W::word(0),
+        "1 cells are used, in the map 2",
+    );
+    cells(
+        |after| after.cells[6] = W::GONE,
+        "3 cells are used, in the map 2",
+    );
+    cells(|after| after.cells.truncate(6), "number of cells");
+    assert_differs(
+        two_adds::<W>(),
+        |after| after.cells[4] = cell(1, 45),
+        "hold the pairs {1: 45}, the map {1: 52}",
+    );
+}
+
+fn full_is_right_only_where_no_cell_is_left<W: Width>() {
+    let adds = [row::<W>("add", 9, 1)];
+    let after = |cells: &[W], name| After {
         done: 1,
         cells: cells.to_vec(),
-        answers: vec![answer(name, 0)],
+        answers: vec![reply(name, 0)],
         log: vec![0],
     };
-    let mut cells = vec![GONE; 8];
+    let mut cells = vec![W::GONE; 8];
     assert_eq!(
         agrees_with_map(&cells, &adds, &after(&cells, "full")),
         Ok(())
     );
     let absent = after(&cells, "absent");
     assert!(agrees_with_map(&cells, &adds, &absent).is_err());
-    cells[2] = 0;
+    cells[2] = W::word(0);
     let full = after(&cells, "full");
     assert!(agrees_with_map(&cells, &adds, &full).is_err());
 }
@@ -208,8 +317,8 @@ fn every_schedule(rows: u8, entries: usize, check: &mut dyn FnMut(&[u8])) {
 }
 
 /// In 8 cells keys 1, 9 and 17 have home 4.
-fn three_at_a_time() -> Vec<(Vec<u32>, [u64; 3])> {
-    let crowded = table(
+fn three_at_a_time<W: Width>(amounts: [u64; 5]) -> Vec<(Vec<W>, [u64; 3])> {
+    let crowded = filled(
         8,
         &[
             (0, 65_535, 0),
@@ -222,15 +331,18 @@ fn three_at_a_time() -> Vec<(Vec<u32>, [u64; 3])> {
         ],
     );
     let kinds = ["find", "insert", "update", "add", "remove"];
-    let amounts = [0, 7, 30, 65_530, 0];
     let mut starts = vec![];
-    for cells in [table(8, &[]), table(8, &[(4, 1, 40), (5, 9, 25)]), crowded] {
+    for cells in [
+        filled(8, &[]),
+        filled(8, &[(4, 1, 40), (5, 9, 25)]),
+        crowded,
+    ] {
         for first in 0..5 {
             for second in 0..5 {
                 let operations = [
-                    operation(kinds[first], 1, amounts[first]),
-                    operation(kinds[second], 1, amounts[second]),
-                    operation(
+                    row::<W>(kinds[first], 1, amounts[first]),
+                    row::<W>(kinds[second], 1, amounts[second]),
+                    row::<W>(
                         kinds[(first + second) % 5],
                         9,
                         amounts[(first + second) % 5],
@@ -243,9 +355,9 @@ fn three_at_a_time() -> Vec<(Vec<u32>, [u64; 3])> {
     starts
 }
 
-#[test]
-fn every_short_schedule_agrees_with_the_map_at_every_prefix() {
-    for (cells, operations) in three_at_a_time() {
+/// `amounts` are those of the five kinds, on tables whose totals are small.
+fn assert_every_short_schedule_agrees<W: Width>(amounts: [u64; 5]) {
+    for (cells, operations) in three_at_a_time::<W>(amounts) {
         every_schedule(3, 7, &mut |schedule| {
             let at_prefixes = linearizable_at_every_prefix(&cells, &operations, schedule);
             assert_eq!(at_prefixes, Ok(()), "{cells:?} {operations:?} {schedule:?}");
@@ -255,19 +367,30 @@ fn every_short_schedule_agrees_with_the_map_at_every_prefix() {
 }
 
 #[test]
-fn adds_around_the_ceiling_agree_with_the_map() {
-    // Totals and amounts whose sums lie on either side of 65,535, the most and
-    // the least of each included; two adds, so that the second starts from what
-    // the first has made.
-    let near = [0, 1, 2, 3, 32_767, 32_768, 65_532, 65_533, 65_534, 65_535];
-    for total in near {
-        let cells = table(8, &[(4, 1, total as u32)]);
-        for first in near {
-            for second in near {
-                let operations = [operation("add", 1, first), operation("add", 1, second)];
+fn every_short_schedule_agrees_with_the_map_at_every_prefix() {
+    assert_every_short_schedule_agrees::<u32>([0, 7, 30, 65_530, 0]);
+}
+
+#[test]
+fn every_short_wide_schedule_agrees_with_the_map_at_every_prefix() {
+    assert_every_short_schedule_agrees::<u64>([0, 7, 30, 4_294_967_290, 0]);
+    assert_every_short_schedule_agrees::<u64>([0, FLAG + 7, 30, FLAG + 2, 0]);
+}
+
+/// Totals and amounts whose sums lie on either side of the ceiling, the most
+/// and the least of each included; two adds, so that the second starts from
+/// what the first has made.
+fn assert_adds_agree<W: Width>(near: &[u64]) {
+    for &total in near {
+        let cells: Vec<W> = filled(8, &[(4, 1, total)]);
+        for &first in near {
+            for &second in near {
+                let operations = [row::<W>("add", 1, first), row::<W>("add", 1, second)];
                 for schedule in [[0, 0, 1, 1, 1, 1], [0, 1, 0, 1, 1, 1], [1, 0, 1, 0, 0, 0]] {
                     let at_prefixes = linearizable_at_every_prefix(&cells, &operations, &schedule);
                     assert_eq!(at_prefixes, Ok(()), "{total} {first} {second} {schedule:?}");
+                    let totals = totals(&cells, &operations, &schedule);
+                    assert_eq!(totals, Ok(true), "{total} {first} {second} {schedule:?}");
                 }
             }
         }
@@ -275,17 +398,30 @@ fn adds_around_the_ceiling_agree_with_the_map() {
 }
 
 #[test]
-fn every_short_schedule_of_adds_keeps_the_totals() {
+fn adds_around_the_ceiling_agree_with_the_map() {
+    let near = [0, 1, 2, 3, 32_767, 32_768, 65_532, 65_533, 65_534, 65_535];
+    assert_adds_agree::<u32>(&near);
+    // The wide ceiling with the flag and without, where it may go without.
+    let numbers = [0, 1, 3, 65_535, 2_147_483_647, 2_147_483_648];
+    let next = [4_294_967_292, 4_294_967_293, 4_294_967_294];
+    let true_totals = numbers.into_iter().chain(next);
+    let flagged = true_totals.clone().map(|number| number + FLAG);
+    let wide: Vec<u64> = true_totals.chain(flagged).chain([u64::PINNED]).collect();
+    assert_adds_agree::<u64>(&wide);
+}
+
+/// The first two are amounts added to room 1.
+fn assert_every_short_schedule_keeps<W: Width>(first: u64, second: u64) {
     let operations = [
-        operation("add", 1, 40_000),
-        operation("add", 1, 30_000),
-        operation("find", 9, 0),
+        row::<W>("add", 1, first),
+        row::<W>("add", 1, second),
+        row::<W>("find", 9, 0),
     ];
     let mut held = 0;
     for cells in [
-        table(8, &[]),
-        table(8, &[(4, 9, 25)]),
-        table(8, &[(4, 1, 5)]),
+        filled::<W>(8, &[]),
+        filled(8, &[(4, 9, 25)]),
+        filled(8, &[(4, 1, 5)]),
     ] {
         every_schedule(
             3,
@@ -301,37 +437,41 @@ fn every_short_schedule_of_adds_keeps_the_totals() {
 }
 
 #[test]
-fn refused_calls_are_no_runs() {
-    let find = [operation("find", 1, 0)];
-    for (cells, schedule) in [(vec![0; 3], [0]), (vec![0; 8], [1])] {
+fn every_short_schedule_of_adds_keeps_the_totals() {
+    assert_every_short_schedule_keeps::<u32>(40_000, 30_000);
+    assert_every_short_schedule_keeps::<u64>(4_000_000_000, 300_000_000);
+    assert_every_short_schedule_keeps::<u64>(FLAG + 3, 4);
+}
+
+fn refused_calls_are_no_runs<W: Width>() {
+    let find = [row::<W>("find", 1, 0)];
+    for (cells, schedule) in [(vec![W::word(0); 3], [0]), (vec![W::word(0); 8], [1])] {
         assert!(linearizable(&cells, &find, &schedule).is_err());
         assert!(linearizable_at_every_prefix(&cells, &find, &schedule).is_err());
         assert!(totals(&cells, &find, &schedule).is_err());
     }
 }
 
-#[test]
-fn totals_are_silent_without_their_hypotheses() {
-    let empty = table(8, &[]);
-    let add = operation("add", 1, 5);
+fn totals_are_silent_without_their_hypotheses<W: Width>() {
+    let empty = filled::<W>(8, &[]);
+    let add = row::<W>("add", 1, 5);
     assert_eq!(totals(&empty, &[add], &[0, 0]), Ok(true));
     assert_eq!(totals(&empty, &[], &[]), Ok(true));
     // Unfinished, or neither find nor add.
     assert_eq!(totals(&empty, &[add], &[0]), Ok(false));
     for kind in ["insert", "update", "remove"] {
-        let operations = [add, operation(kind, 1, 0)];
+        let operations = [add, row::<W>(kind, 1, 0)];
         let schedule = [0, 0, 1, 1, 1];
         assert_eq!(totals(&empty, &operations, &schedule), Ok(false), "{kind}");
     }
 }
 
-#[test]
-fn cells_suffice_for_new_rooms_counted_once() {
+fn cells_suffice_for_new_rooms_counted_once<W: Width>() {
     // One empty cell, the others tombstones but for room 1.
-    let mut cells = vec![GONE; 8];
-    cells[4] = 65_536 + 40;
-    cells[5] = 0;
-    let add = |room| operation("add", room, 0);
+    let mut cells = vec![W::GONE; 8];
+    cells[4] = cell(1, 40);
+    cells[5] = W::word(0);
+    let add = |room| row::<W>("add", room, 0);
     let twice = [0; 9].iter().chain(&[1; 9]).copied();
     let thrice: Vec<u8> = twice.chain([2; 9]).collect();
     // Two adds to the new room 9 and one to room 1 need one cell.
@@ -356,7 +496,7 @@ fn lost_and_made_up_totals_are_rejected() {
     let wrong = [
         (4, 65_536 + 4, "room 1 has total Some(4)"), // a sum that wraps
         (4, 65_536 + 65_500, "room 1 has total Some(65500)"),
-        (5, GONE, "room 9 has total None"),
+        (5, u32::GONE, "room 9 has total None"),
         (5, 9 * 65_536 + 26, "room 9 has total Some(26)"),
         (6, 0, "room 17 has total None"),
         (7, 2 * 65_536, "room 2 has total Some(0)"),
@@ -369,4 +509,90 @@ fn lost_and_made_up_totals_are_rejected() {
         let said = kept(&cells).unwrap_err();
         assert!(said.contains(what), "{said}");
     }
+}
+
+#[test]
+fn lost_flags_and_wrong_wide_totals_are_rejected() {
+    let start = filled::<u64>(8, &[(4, 1, FLAG + 3), (5, 9, 25), (6, 17, 4_294_967_290)]);
+    let adds = [
+        row::<u64>("add", 1, 4),
+        row::<u64>("add", 9, FLAG),
+        row::<u64>("add", 17, 2),
+        row::<u64>("add", 17, 3),
+        row::<u64>("add", 2, FLAG + 1),
+        row::<u64>("add", 2, 1),
+        row::<u64>("find", 3, 0),
+    ];
+    let kept = |cells: &[u64]| totals_kept(&start, &adds, 7, cells);
+    let right = filled(
+        8,
+        &[
+            (1, 2, FLAG + 2),
+            (4, 1, FLAG + 7),
+            (5, 9, FLAG + 25),
+            (6, 17, u64::PINNED),
+        ],
+    );
+    assert_eq!(kept(&right), Ok(true));
+    let wrong = [
+        (
+            1,
+            cell(2, 2),
+            "room 2 has total Some(2), expected Some(2 flagged)",
+        ),
+        (
+            4,
+            cell(1, 7),
+            "room 1 has total Some(7), expected Some(7 flagged)",
+        ),
+        (
+            4,
+            cell(1, u64::PINNED),
+            "room 1 has total Some(4294967295 flagged)",
+        ),
+        (4, cell(1, FLAG + 3), "room 1 has total Some(3 flagged)"),
+        (
+            5,
+            cell(9, 25),
+            "room 9 has total Some(25), expected Some(25 flagged)",
+        ),
+        (
+            5,
+            cell(9, u64::PINNED),
+            "room 9 has total Some(4294967295 flagged)",
+        ),
+        (
+            6,
+            cell(17, 4_294_967_295),
+            "room 17 has total Some(4294967295), expected",
+        ),
+        (6, cell(17, FLAG), "room 17 has total Some(0 flagged)"),
+        (
+            6,
+            cell(17, 4_294_967_294),
+            "room 17 has total Some(4294967294)",
+        ),
+        (
+            7,
+            cell(3, FLAG),
+            "room 3 has total Some(0 flagged), expected None",
+        ),
+        (7, cell(1, 40), "key 1 has two live cells"),
+    ];
+    for (cell, word, what) in wrong {
+        let mut cells = right.clone();
+        cells[cell] = word;
+        let said = kept(&cells).unwrap_err();
+        assert!(said.contains(what), "{said}");
+    }
+}
+
+#[test]
+fn a_true_wide_total_is_not_to_be_flagged() {
+    let start = filled::<u64>(8, &[(4, 1, 4_294_967_290)]);
+    let adds = [row::<u64>("add", 1, 4)];
+    let kept = |total| totals_kept(&start, &adds, 1, &filled(8, &[(4, 1, total)]));
+    assert_eq!(kept(4_294_967_294), Ok(true));
+    assert!(kept(FLAG + 4_294_967_294).is_err());
+    assert!(kept(u64::PINNED).is_err());
 }

@@ -1,22 +1,24 @@
 //! Every case that the specification works out, in its order and with every
 //! number it states; behind them those of document 02 by its requests: the adds
-//! that hit the ceiling, A1, and tables of 1, 2 and 4 cells, A2, with their
-//! neighbours. Tables have 8 cells where no other number stands.
+//! that hit the ceiling, A1, tables of 1, 2 and 4 cells, A2, and the wide width,
+//! A4, with their neighbours. Tables have 8 cells where no other number stands.
 
 mod support {
     pub mod answers;
     pub mod calls;
     pub mod files;
     pub mod leaves;
+    pub mod narrow;
     pub mod words;
 }
 
-use model::{home, load, run, sum, Loaded, Outcome};
-use support::answers::answer;
+use model::{home, load, run, sum, Loaded, Outcome, Word};
+use support::answers::reply;
 use support::calls::{Call, OLD_ANSWER, OLD_LOG};
-use support::files::{cl, op, sc, tb, text};
+use support::files::{cl, op, sc, tb, text, tw};
 use support::leaves::assert_leaves;
-use support::words::{operation, table, GONE};
+use support::narrow::{answer, operation, table};
+use support::words::{filled, row, Width, FLAG};
 
 fn refused(number: u32, place: usize) -> Outcome {
     Outcome {
@@ -100,7 +102,7 @@ fn run_in_full_slices() {
 fn insert_passes_a_tombstone_slices() {
     let operations = [operation("remove", 1, 0), operation("insert", 9, 7)];
     let after = table(8, &[(4, 65_535, 0), (5, 9, 25)]);
-    assert_eq!(after[4], GONE);
+    assert_eq!(after[4], u32::GONE);
     assert_leaves(
         Call::new(
             table(8, &[(4, 1, 40), (5, 9, 25)]),
@@ -163,7 +165,7 @@ fn second_add_loses_once_text() {
 }
 
 /// Keys 1 to 8, each at its home.
-const FULL: [(usize, u32, u32); 8] = [
+const FULL: [(usize, u64, u64); 8] = [
     (0, 5, 50),
     (1, 2, 20),
     (2, 7, 70),
@@ -177,7 +179,7 @@ const FULL: [(usize, u32, u32); 8] = [
 #[test]
 fn keys_one_to_eight_stand_at_home() {
     for (cell, key, _) in FULL {
-        assert_eq!(home(key, 8) as usize, cell, "key {key}");
+        assert_eq!(home(key as u32, 8) as usize, cell, "key {key}");
     }
 }
 
@@ -302,17 +304,25 @@ fn more_operations_or_entries_are_refused() {
     assert_eq!(call.run(), refused(2, 0));
 }
 
-/// A file of as many finds of key 1 and as many entries, each record of
-/// entries as long as can be.
-fn file_of(operations: usize, entries: usize) -> Vec<u8> {
-    let mut file = tb(3);
+/// A file, narrow or wide by its first two records, of as many finds of key 1
+/// and as many entries, each record of entries as long as can be.
+fn file_of([table, find]: [Vec<u8>; 2], operations: usize, entries: usize) -> Vec<u8> {
+    let mut file = table;
     for _ in 0..operations {
-        file.extend(op(1, 1, 0));
+        file.extend(&find);
     }
     for part in in_turn(entries).chunks(255) {
         file.extend(sc(part));
     }
     file
+}
+
+fn narrow() -> [Vec<u8>; 2] {
+    [tb(3), op(1, 1, 0)]
+}
+
+fn wide() -> [Vec<u8>; 2] {
+    [tw(3), op(1, 1, (0, 0))]
 }
 
 #[test]
@@ -326,19 +336,25 @@ fn a_file_of_the_most_operations_and_entries_runs() {
         expected += &format!(" {number}");
     }
     expected += "\n";
-    assert_eq!(text(&file_of(64, 16_384)), expected);
+    for width in [narrow(), wide()] {
+        assert_eq!(text(&file_of(width, 64, 16_384)), expected);
+    }
 }
 
 #[test]
 fn a_file_of_more_operations_or_entries_is_refused() {
     // 3 bytes of TB and 64 rows of 7 come before the 65th row.
-    assert_eq!(text(&file_of(65, 16_384)), "refused 2 at 451\n");
+    assert_eq!(text(&file_of(narrow(), 65, 16_384)), "refused 2 at 451\n");
     // The last record, after 64 of 258 bytes, brings 65 entries to 16,320.
-    assert_eq!(text(&file_of(64, 16_385)), "refused 2 at 16963\n");
+    assert_eq!(text(&file_of(narrow(), 64, 16_385)), "refused 2 at 16963\n");
+    // Wide rows have 10 bytes.
+    assert_eq!(text(&file_of(wide(), 65, 16_384)), "refused 2 at 643\n");
+    assert_eq!(text(&file_of(wide(), 64, 16_385)), "refused 2 at 17155\n");
 }
 
-fn load_bytes(file: &[u8]) -> Loaded {
-    load(file, &mut [7; 4_096], &mut [7; 64], &mut [7; 16_384])
+fn load_bytes<W: Word>(file: &[u8]) -> Loaded {
+    let mut cells = [W::from(7); 4_096];
+    load(file, &mut cells, &mut [7; 64], &mut [7; 16_384])
 }
 
 #[test]
@@ -351,8 +367,11 @@ fn tables_of_the_least_and_most_cells_are_read() {
             operations: 0,
             entries: 0,
         };
-        assert_eq!(load_bytes(&tb(k)), read);
-        assert_eq!(text(&tb(k)), "rows 0 done 0 lost 0 idle 0\nlog\n");
+        assert_eq!(load_bytes::<u32>(&tb(k)), read);
+        assert_eq!(load_bytes::<u64>(&tw(k)), read);
+        for file in [tb(k), tw(k)] {
+            assert_eq!(text(&file), "rows 0 done 0 lost 0 idle 0\nlog\n");
+        }
     }
 }
 
@@ -366,8 +385,11 @@ fn tables_of_more_cells_are_refused() {
         entries: 0,
     };
     for k in [13, 14, 16, 63, 64, 255] {
-        assert_eq!(load_bytes(&tb(k)), refused);
-        assert_eq!(text(&tb(k)), "refused 11 at 0\n");
+        assert_eq!(load_bytes::<u32>(&tb(k)), refused);
+        assert_eq!(load_bytes::<u64>(&tw(k)), refused);
+        for file in [tb(k), tw(k)] {
+            assert_eq!(text(&file), "refused 11 at 0\n");
+        }
     }
 }
 
@@ -405,13 +427,13 @@ fn operations_without_entries_text() {
 
 /// One operation alone on room 1, which has this total: its answer has the old
 /// total, and the room has the new one.
-fn assert_room_one(total: u32, operation: u64, name: &str, new: u32) {
-    assert_leaves(
-        Call::new(table(8, &[(4, 1, total)]), &[operation], &[0, 0]),
+fn assert_room_one<W: Width>(total: u64, operation: u64, name: &str, new: u64) {
+    assert_leaves::<W>(
+        Call::new(filled(8, &[(4, 1, total)]), &[operation], &[0, 0]),
         [1, 0, 0],
-        &[answer(name, total)],
+        &[reply(name, total)],
         &[0],
-        &table(8, &[(4, 1, new)]),
+        &filled(8, &[(4, 1, new)]),
     );
 }
 
@@ -433,7 +455,7 @@ fn an_add_that_pins_a_true_total_is_capped_with_the_old_total() {
         (65_534, 65_535),
     ];
     for (total, amount) in worked {
-        assert_room_one(total, operation("add", 1, amount), "capped", 65_535);
+        assert_room_one::<u32>(total, operation("add", 1, amount), "capped", 65_535);
     }
 }
 
@@ -446,7 +468,7 @@ fn an_add_that_leaves_the_total_true_is_changed() {
         (0, 65_534, 65_534),
         (0, 0, 0),
     ] {
-        assert_room_one(total, operation("add", 1, amount), "changed", new);
+        assert_room_one::<u32>(total, operation("add", 1, amount), "changed", new);
     }
 }
 
@@ -454,7 +476,7 @@ fn an_add_that_leaves_the_total_true_is_changed() {
 fn an_add_to_a_pinned_total_is_changed() {
     for amount in [0, 1, 65_534, 65_535] {
         let add = operation("add", 1, amount);
-        assert_room_one(65_535, add, "changed", 65_535);
+        assert_room_one::<u32>(65_535, add, "changed", 65_535);
     }
 }
 
@@ -463,7 +485,7 @@ fn an_update_to_a_pinned_amount_is_changed() {
     // Only an add is capped.
     for total in [0, 40, 65_534, 65_535] {
         let update = operation("update", 1, 65_535);
-        assert_room_one(total, update, "changed", 65_535);
+        assert_room_one::<u32>(total, update, "changed", 65_535);
     }
 }
 
@@ -504,13 +526,13 @@ fn adds_around_the_ceiling_text() {
 /// Room 1 has total 40, and both operations hold that word. Operation 0 swaps
 /// first, operation 1 loses its swap once, reads again and swaps: their answers
 /// and the room's total after both.
-fn assert_second_retries(operations: [u64; 2], answers: [u32; 2], total: u32) {
-    assert_leaves(
-        Call::new(table(8, &[(4, 1, 40)]), &operations, &[0, 1, 0, 1, 1, 1]),
+fn assert_second_retries<W: Width>(operations: [u64; 2], answers: [W; 2], total: u64) {
+    assert_leaves::<W>(
+        Call::new(filled(8, &[(4, 1, 40)]), &operations, &[0, 1, 0, 1, 1, 1]),
         [2, 1, 0],
         &answers,
         &[0, 1],
-        &table(8, &[(4, 1, total)]),
+        &filled(8, &[(4, 1, total)]),
     );
 }
 
@@ -640,4 +662,221 @@ fn four_full_cells_are_passed_in_four_steps() {
             &full,
         );
     }
+}
+
+/// The run in full with wide totals: the amount of row 2 takes 40 past the
+/// ceiling of 32 bits.
+const WIDE_IN_FULL: [u8; 48] = [
+    0x54, 0x57, 0x03, // a wide table of 8 cells
+    0x4F, 0x50, 0x04, 0x00, 0x01, 0x00, 0x00, 0x00, 0x00, 0x28, // add 1 40
+    0x4F, 0x50, 0x04, 0x00, 0x09, 0x00, 0x00, 0x00, 0x00, 0x19, // add 9 25
+    0x4F, 0x50, 0x04, 0x00, 0x01, 0x00, 0xFF, 0xFF, 0xFF, 0xDC, // add 1 4294967260
+    0x53, 0x43, 0x0C, // twelve entries
+    0x00, 0x01, 0x02, 0x00, 0x01, 0x02, 0x01, 0x01, 0x02, 0x02, 0x01, 0x00,
+];
+
+#[test]
+fn wide_run_in_full_text() {
+    let expected = "rows 3 done 3 lost 2 idle 1\n\
+                    row 0 add 1 40 inserted 0\n\
+                    row 1 add 9 25 inserted 0\n\
+                    row 2 add 1 4294967260 capped 40\n\
+                    log 0 2 1\n\
+                    cell 4 1 atleast 4294967295\n\
+                    cell 5 9 25\n";
+    assert_eq!(text(&WIDE_IN_FULL), expected);
+}
+
+#[test]
+fn wide_run_in_full_slices() {
+    // Kind x 2^49 + key x 2^33 + amount; an answer is code x 2^33 + total, and
+    // a cell key x 2^48 + flag x 2^32 + total.
+    let operations = [
+        0x0008_0002_0000_0028,
+        0x0008_0012_0000_0019,
+        0x0008_0002_FFFF_FFDC,
+    ];
+    let mut cells = vec![0_u64; 8];
+    cells[4] = 0x0001_0001_FFFF_FFFF;
+    cells[5] = 0x0009_0000_0000_0019;
+    assert_leaves(
+        Call::new(
+            vec![0; 8],
+            &operations,
+            &[0, 1, 2, 0, 1, 2, 1, 1, 2, 2, 1, 0],
+        ),
+        [3, 2, 1],
+        &[0x4_0000_0000, 0x4_0000_0000, 0x10_0000_0028],
+        &[0, 2, 1],
+        &cells,
+    );
+}
+
+#[test]
+fn flags_in_a_wide_run_text() {
+    let file = [
+        tw(3),
+        cl(4, 1, (1, 3)),
+        cl(5, 9, (0, 65_535)),
+        cl(6, 65_535, (0, 0)),
+        op(4, 1, (0, 4)),
+        op(4, 9, (1, 4)),
+        op(1, 1, (0, 0)),
+        op(2, 17, (1, 0)),
+        op(3, 9, (0, 4_294_967_294)),
+        op(5, 1, (0, 0)),
+        sc(&[0, 0, 1, 1, 1, 2, 3, 3, 3, 3, 3, 4, 4, 4, 5, 5]),
+    ];
+    let expected = "rows 6 done 6 lost 0 idle 0\n\
+                    row 0 add 1 4 changed atleast 3\n\
+                    row 1 add 9 atleast 4 capped 65535\n\
+                    row 2 find 1 0 found atleast 7\n\
+                    row 3 insert 17 atleast 0 inserted 0\n\
+                    row 4 update 9 4294967294 changed atleast 65539\n\
+                    row 5 remove 1 0 removed atleast 7\n\
+                    log 0 1 2 3 4 5\n\
+                    cell 4 gone\n\
+                    cell 5 9 4294967294\n\
+                    cell 6 gone\n\
+                    cell 7 17 atleast 0\n";
+    assert_eq!(text(&file.concat()), expected);
+}
+
+/// One add alone on room 1 of a wide table.
+fn assert_wide_add(total: u64, amount: u64, name: &str, new: u64) {
+    assert_room_one::<u64>(total, row::<u64>("add", 1, amount), name, new);
+}
+
+/// The most that a wide total can say, flagged.
+const MOST: u64 = u64::PINNED;
+
+#[test]
+fn a_wide_add_that_pins_a_true_total_is_capped_with_the_old_total() {
+    let worked = [
+        // To the ceiling and no further.
+        (4_294_967_294, 1, MOST),
+        (40, 4_294_967_255, MOST),
+        (1, 4_294_967_294, MOST),
+        // Above; in 32 bits the sums would wrap, the first two to 0.
+        (4_294_967_294, 2, MOST),
+        (2_147_483_648, 2_147_483_648, MOST),
+        (4_294_967_294, 4_294_967_294, MOST),
+        // By a flagged amount the sum is below the ceiling and pinned all the same.
+        (3, FLAG + 4, FLAG + 7),
+        (3, FLAG, FLAG + 3),
+        (0, FLAG, FLAG),
+        (65_534, FLAG + 1, FLAG + 65_535),
+        (4_294_967_294, FLAG, FLAG + 4_294_967_294),
+        // By a flagged amount, to the ceiling and above.
+        (0, MOST, MOST),
+        (4_294_967_294, FLAG + 1, MOST),
+        (4_294_967_294, MOST, MOST),
+    ];
+    for (total, amount, new) in worked {
+        assert_wide_add(total, amount, "capped", new);
+    }
+}
+
+#[test]
+fn a_wide_add_that_leaves_the_total_true_is_changed() {
+    let worked = [
+        (0, 0, 0),
+        (0, 4_294_967_294, 4_294_967_294),
+        (4_294_967_294, 0, 4_294_967_294),
+        (4_294_967_293, 1, 4_294_967_294),
+        (2_147_483_647, 2_147_483_647, 4_294_967_294),
+        // What the narrow width would have held.
+        (65_534, 1, 65_535),
+        (65_535, 65_535, 131_070),
+    ];
+    for (total, amount, new) in worked {
+        assert_wide_add(total, amount, "changed", new);
+    }
+}
+
+#[test]
+fn a_wide_add_to_a_pinned_total_is_changed_and_counts_on() {
+    let worked = [
+        (FLAG + 3, 4, FLAG + 7),
+        (FLAG + 3, FLAG + 4, FLAG + 7),
+        (FLAG, 0, FLAG),
+        (FLAG + 4_294_967_293, 1, FLAG + 4_294_967_294),
+        (FLAG + 4_294_967_294, 0, FLAG + 4_294_967_294),
+        (FLAG + 4_294_967_294, 1, MOST),
+        (FLAG + 2_147_483_648, 2_147_483_648, MOST),
+        (FLAG + 3, MOST, MOST),
+        (MOST, 0, MOST),
+        (MOST, 4_294_967_294, MOST),
+        (MOST, MOST, MOST),
+    ];
+    for (total, amount, new) in worked {
+        assert_wide_add(total, amount, "changed", new);
+    }
+}
+
+#[test]
+fn a_wide_update_puts_its_amount_with_its_flag() {
+    let worked = [
+        (3, FLAG + 4),
+        (FLAG + 3, 4),
+        (FLAG + 3, FLAG + 4),
+        (MOST, 0),
+        (0, MOST),
+        (4_294_967_294, 4_294_967_294),
+    ];
+    for (total, amount) in worked {
+        let update = row::<u64>("update", 1, amount);
+        assert_room_one::<u64>(total, update, "changed", amount);
+    }
+}
+
+#[test]
+fn a_wide_insertion_keeps_the_flag_and_is_not_capped() {
+    for kind in ["add", "insert"] {
+        for amount in [0, 4_294_967_294, FLAG, FLAG + 4, MOST] {
+            assert_leaves::<u64>(
+                Call::new(filled(8, &[]), &[row::<u64>(kind, 1, amount)], &[0, 0]),
+                [1, 0, 0],
+                &[reply("inserted", 0)],
+                &[0],
+                &filled(8, &[(4, 1, amount)]),
+            );
+        }
+    }
+}
+
+#[test]
+fn a_wide_add_retried_is_answered_by_the_flag_that_it_read_again() {
+    let add = |amount| row::<u64>("add", 1, amount);
+    // The first pins the total; the second would have.
+    assert_second_retries::<u64>(
+        [add(FLAG + 5), add(FLAG + 7)],
+        [reply("capped", 40), reply("changed", FLAG + 45)],
+        FLAG + 52,
+    );
+    assert_second_retries::<u64>(
+        [add(5), add(FLAG + 7)],
+        [reply("changed", 40), reply("capped", 45)],
+        FLAG + 52,
+    );
+    assert_second_retries::<u64>(
+        [add(FLAG + 5), add(4_294_967_290)],
+        [reply("capped", 40), reply("changed", FLAG + 45)],
+        MOST,
+    );
+}
+
+#[test]
+fn a_word_that_differs_by_its_flag_alone_loses_the_swap() {
+    // The number is 40 before and after.
+    assert_second_retries::<u64>(
+        [row::<u64>("update", 1, FLAG + 40), row::<u64>("add", 1, 7)],
+        [reply("changed", 40), reply("changed", FLAG + 40)],
+        FLAG + 47,
+    );
+    assert_second_retries::<u64>(
+        [row::<u64>("add", 1, FLAG), row::<u64>("update", 1, 7)],
+        [reply("capped", 40), reply("changed", FLAG + 40)],
+        7,
+    );
 }

@@ -1,5 +1,7 @@
+use super::words::Width;
+
 /// The word of an answer.
-pub fn answer(name: &str, total: u32) -> u32 {
+pub fn reply<W: Width>(name: &str, total: u64) -> W {
     let codes = [
         "unfinished",
         "found",
@@ -11,6 +13,6 @@ pub fn answer(name: &str, total: u32) -> u32 {
         "full",
         "capped",
     ];
-    let code = codes.iter().position(|&code| code == name).unwrap() as u32;
-    code * 65_536 + total
+    let code = codes.iter().position(|&code| code == name).unwrap() as u64;
+    W::word(code * W::ABOVE_TOTAL + total)
 }

@@ -1,20 +1,20 @@
 //! What an accepted call must leave.
 
 use super::calls::{Call, OLD_ANSWER, OLD_LOG};
-use model::Outcome;
+use model::{Outcome, Word};
 
 /// Runs the call and compares all of it: the counts done, lost and idle, the
 /// answers, the log and the cells, and that nothing else was written.
-pub fn assert_leaves(
-    mut call: Call,
+pub fn assert_leaves<W: Word>(
+    mut call: Call<W>,
     [done, lost, idle]: [usize; 3],
-    answers: &[u32],
+    answers: &[W],
     log: &[u8],
-    cells: &[u32],
+    cells: &[W],
 ) {
     let mut expected = call.clone();
     expected.cells = cells.to_vec();
-    expected.answers.fill(OLD_ANSWER);
+    expected.answers.fill(W::from(OLD_ANSWER));
     expected.answers[..answers.len()].copy_from_slice(answers);
     expected.log.fill(OLD_LOG);
     expected.log[..log.len()].copy_from_slice(log);
