@@ -8,7 +8,9 @@ ghost use Rattle.semantics.specs.RunFile.{layoutOf, byteAt, pairAt, hasMark, ma
 ghost use Rattle.record.specs.Turned.{turned};
 use packing::low_8;
 use packing::narrow::cell_word;
+use packing::narrow::narrow_total;
 use semantics::Mark;
+use semantics::Total;
 
 // The byte at an offset, and the one after it; 0 past the end.
 pub fn byte_at(file: &[u8], at: usize) -> u8
@@ -136,6 +138,21 @@ pub fn total_size(flagged: bool) -> usize
         return 5;
     }
     2
+}
+
+// The total or amount that some bytes begin with, in either width.
+pub fn total_in(bytes: &[u8], flagged: bool) -> Total
+    ensures { λ r. ⌜ r ≡ layoutOf flagged .totalAt (now (bytes .entry)) 0 ⌝ }
+{
+    if flagged {
+        let amount = cell_word(pair_at(bytes, 1), pair_at(bytes, 3));
+        let saturated = byte_at(bytes, 0) == 1;
+        return Total {
+            amount: amount,
+            saturated: saturated,
+        };
+    }
+    narrow_total(pair_at(bytes, 0))
 }
 
 pub(crate) fn is_total_wrong(file: &[u8], at: usize, flagged: bool) -> bool

@@ -17,8 +17,7 @@ use Rattle.semantics.specs.Records.{faultAt, records}
 use Rattle.semantics.specs.RunFile.{Layout, row, Contents, byteAt, pairAt, cellWordAt, operationWordAt, entriesAt, markAt, mayFollow, past, nextOf, start, runFile, load, contents, acceptedReading}
 use Rattle.semantics.proofs.Over.{over-none, over-length, over-set, over-next, over-more}
 use Rattle.semantics.proofs.Records.{Folding, judgement, scan-less, fold-starts, fold-sound, fold-goes-on, fold-ends}
-use Rattle.semantics.proofs.Marks.{Sound, sound}
-use Rattle.runfile.proofs.Judged.{scannable, within, is-known, size-small, inside, few, short}
+use Rattle.semantics.proofs.Marks.{Sound, sound, scannable, within, is-known, size-small, inside, few, short}
 use Rattle.io.specs.Counts.{Counts}
 use Rattle.runfile.specs.Stored.{stored}
 

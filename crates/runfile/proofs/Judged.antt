@@ -1,33 +1,28 @@
--- One record of a run file: which of its conditions decides, in table order; what the tests of each mark say of one that none turns away; and
--- that run files can be scanned.
+-- One record of a run file: which of its conditions decides, in table order, read from its place in the file or from its own bytes on; and what
+-- the scan says of it.
 -- Assumes nothing.
-use mathlib.Core.Path.{_≡_, refl, sym, ap, subst, _∙_}
+use mathlib.Core.Path.{_≡_, refl, sym, ap, _∙_}
 use Prim.Native.Nat.{ℕ, _+_, _-_, _^_, _≤_, _<_}
-use mathlib.Core.Bool.{Bool, cond, not, _||_, true≢false}
+use mathlib.Core.Bool.{Bool, cond, not, _||_}
 use mathlib.Core.List.{List, [], _∷_}
-use native.Mathlib.Decide.{decLt}
 use native.Mathlib.Omega.{arith}
 use lib.Dec.{eqb, leb, ltb}
 use lib.ListN.{length, take, drop, length-drop}
-use lib.Pow.{pow-mono}
 use lib.Seq.{take-all}
-use borrow.Author.Tests.{eq-eqb, ne-eqb, lt-ltb, le-ltb, ltb-false, leb-false}
+use borrow.Author.Tests.{eq-eqb, ne-eqb, lt-ltb, le-ltb}
 use Rattle.semantics.specs.declared.Judged.{Judged}
 use Rattle.semantics.specs.declared.Mark.{Mark}
 use Rattle.semantics.specs.declared.Mark.the-variants.{Table, Cell, Operation, Schedule, Unknown}
 use Rattle.semantics.specs.declared.Position.{Position}
 use Rattle.semantics.specs.declared.Refusal.{Refusal}
 use Rattle.semantics.specs.Words.{sizeAllowed}
-use Rattle.semantics.specs.Refusals.{mostOperations, mostEntries}
+use Rattle.semantics.specs.Refusals.{mostEntries}
 use Rattle.semantics.specs.Records.{faultAt}
-use Rattle.semantics.specs.RunFile.{Layout, layoutOf, row, byteAt, pairAt, markAt, mayFollow, sizeOf, past, nextOf, runFile, judged}
+use Rattle.semantics.specs.RunFile.{Layout, layoutOf, row, markAt, sizeOf, past, nextOf, runFile, judged}
 use Rattle.semantics.specs.RunFile.{conditionsOf, conditionsAt, markCut, markWrong, bodyCut, bodyWrong, oneTooMany}
 use Rattle.semantics.proofs.Conditions.{met-here, met-late, alike-number}
-use Rattle.semantics.proofs.Records.{Scannable}
 use Rattle.semantics.proofs.Parts.{Agrees, rest-agrees, pair-agrees, total-agrees}
-use Rattle.semantics.proofs.Sizes.{allowed-bounds}
-use Rattle.semantics.proofs.Booleans.{same-test, compared, neither, affirmed}
-use Rattle.semantics.proofs.Marks.{follows-nothing, Sound, sound}
+use Rattle.semantics.proofs.Booleans.{same-test, compared}
 use Rattle.record.specs.Faults.{atFront, faultOf}
 
 -- what is read of the bytes from a record on is what is read in its place
@@ -105,65 +100,3 @@ module _ (L : Layout) (file : List ℕ) (p : Position) {j : Judged} (is : j ≡ 
   unfolding judged
   next-said z =
       ap (λ (k : Judged). k .next) is ∙ ap (λ b. cond b (nextOf L file p) p) (eq-eqb (faultAt (runFile L) file p) 0 (sym number-said ∙ z))
-
--- every record has the two bytes of its mark, and one with a known mark a third
-module _ (L : Layout) (file : List ℕ) (at : ℕ) where
-  two-bytes : (m : Mark) → 2 ≤ sizeOf L file at m
-  two-bytes Table = omega arith
-  two-bytes Cell = omega arith
-  two-bytes Operation = omega arith
-  two-bytes Schedule = omega arith
-  two-bytes Unknown = omega arith
-
-  three-bytes : (m : Mark) → (m ≡ Unknown → ⊥) → 3 ≤ sizeOf L file at m
-  three-bytes Table h = omega arith
-  three-bytes Cell h = omega arith
-  three-bytes Operation h = omega arith
-  three-bytes Schedule h = omega arith
-  three-bytes Unknown h = absurd (h refl)
-
-module _ {L : Layout} {file : List ℕ} {p : Position} {m : Mark} (s : Sound L file p m) where
-  -- what the tests of each mark say
-  pub is-known : m ≡ Unknown → ⊥
-  is-known e = true≢false (sym (s .follows) ∙ ap (λ n. mayFollow (p .part) (row L n .part)) e ∙ follows-nothing (p .part))
-
-  pub within : p .at + 3 ≤ length file
-  within = omega (arith, three-bytes L file (p .at) m is-known, s .whole)
-
-  pub whole-of : {M : Mark} → m ≡ M → p .at + sizeOf L file (p .at) M ≤ length file
-  whole-of e = subst (λ n. p .at + sizeOf L file (p .at) n ≤ length file) e (s .whole)
-
-  pub size-small : m ≡ Table → 2 ^ byteAt file (p .at + 2) ≤ 4096
-  size-small e =
-      let k = byteAt file (p .at + 2) in
-      allowed-bounds (2 ^ k) (affirmed (sizeAllowed (2 ^ k)) (ap (λ n. row L n .isWrong file p) (sym e) ∙ s .body)) .1
-
-  pub exponent : m ≡ Table → byteAt file (p .at + 2) < 13
-  exponent e = elim (decLt (byteAt file (p .at + 2)) 13) [
-    | yes h ↦ h
-    | no h ↦ let large : 2 ^ 13 ≤ 2 ^ byteAt file (p .at + 2) = pow-mono {i = 13} (omega arith) in absurd (omega (arith, size-small e))
-  ]
-
-  pub inside : m ≡ Cell → pairAt file (p .at + 2) < p .size
-  inside e =
-      let n = pairAt file (p .at + 2) in
-      let wrong = L .isTotalWrong file (p .at + 6) in
-      let (number, key) = neither (wrong || ltb n (p .lowest) || leb (p .size) n) (eqb (pairAt file (p .at + 4)) 0) (ap (λ n. row L n .isWrong file p) (sym e) ∙ s .body) in
-      leb-false (p .size) n (neither (wrong || ltb n (p .lowest)) (leb (p .size) n) number .1)
-
-  pub few : m ≡ Operation → p .operations < mostOperations
-  few e = leb-false mostOperations (p .operations) (ap (λ n. row L n .isTooMany file p) (sym e) ∙ s .room)
-
-  pub short : m ≡ Schedule → p .entries + byteAt file (p .at + 2) ≤ mostEntries
-  short e = ltb-false mostEntries (p .entries + byteAt file (p .at + 2)) (ap (λ n. row L n .isTooMany file p) (sym e) ∙ s .room)
-
--- the position past a record is further on, so the records of a run file can be scanned
-pub scannable : (L : Layout) (file : List ℕ) → Scannable (runFile L) file
-unfolding conditionsAt markCut markWrong bodyCut bodyWrong oneTooMany nextOf past
-scannable L file =
-    record {
-      positive = λ p. omega arith;
-      placed = λ p. (refl, (refl, (refl, (refl, (refl, tt)))));
-      within = λ p e. omega (arith, within (sound L file p refl e));
-      onward = λ p e. omega (arith, two-bytes L file (p .at) (markAt L file (p .at)));
-    }

@@ -26,6 +26,7 @@ use Rattle.semantics.specs.RunFile.{Contents}
 use Rattle.semantics.specs.Listing as Listing
 use Rattle.semantics.specs.Widths.{widthOf}
 use Rattle.semantics.specs.Response as Response
+use Rattle.semantics.specs.Convert as Convert
 use Rattle.semantics.proofs.Widths.{packing-of}
 use Rattle.semantics.proofs.WordsHold.{demands}
 use Rattle.semantics.specs.Cases as Cases
@@ -36,6 +37,7 @@ unfoldable pub computed : Unit {0}
 unfolding
     resultOf holds cases inFull longer edge wideInFull
     Cases.holdsAt Cases.wideTables Cases.wideInFullFile Cases.wideInFullText
+    Cases.conversions Cases.inFullWidened Cases.mixedFile Cases.mixedWidened Cases.handedBy Cases.convertsBy
     Cases.resultWith Cases.leftBy Cases.sameList Cases.readBy Cases.refusedBy Cases.lent Cases.lentAs Cases.readingOf
     Cases.starred Cases.capped Cases.smallTables Cases.oneRoom Cases.oneRoomFile Cases.oneRoomText Cases.inFullFile Cases.inFullText Cases.goneFile Cases.goneText
     Cases.furtherNumbers Cases.furtherCalls Cases.furtherFiles Cases.furtherTexts Cases.furtherRuns Cases.everyFile Cases.everyText
@@ -55,7 +57,7 @@ unfolding
     Refusals.tooShort Refusals.badCell Refusals.badOperation Refusals.badEntry Refusals.repeatedKey Refusals.unreachableKey
     Refusals.runConditions Refusals.runRefusal
     Run.over Run.machine Run.answerOf Run.outcomeOf Run.acceptedResult Run.refusedResult Run.resultIf Run.runResult
-    Text.text Text.decimalIn Text.decimal Text.textsBelow
+    Text.text Text.decimalIn Text.decimal Text.textsBelow Text.handed
     Records.faultAt Records.goesOn Records.recordsFrom Records.records Records.recordConditions
     RunFile.hasMark RunFile.markIn RunFile.markAt RunFile.mayFollow RunFile.past
     RunFile.markCut RunFile.markWrong RunFile.bodyCut RunFile.bodyWrong RunFile.oneTooMany RunFile.conditionsAt RunFile.nextOf
@@ -64,6 +66,9 @@ unfolding
     Listing.kindWord Listing.codeWord Listing.narrowText Listing.wideText Listing.refusalText Listing.countsText Listing.operationText
     Listing.answerText Listing.rowText Listing.logText Listing.contentsText Listing.cellText Listing.runText Listing.listing
     Response.runOf Response.listed Response.responseIn Response.isWide Response.response
+    Convert.recordOf Convert.recordAt Convert.fileRecords Convert.totalBytesOf Convert.bytesOf Convert.fileOf Convert.converted
+    Convert.isUnfit Convert.isUnfitIn Convert.unfitAt Convert.resultTooLong Convert.conversionConditions Convert.conversionRefusal
+    Convert.conversionIf Convert.conversion Convert.conversionText
 computed = tt
 
 pub covered : T (Basics.allOf holds cases)

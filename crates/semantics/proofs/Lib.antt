@@ -23,6 +23,9 @@ pub mod Start
 pub mod Records
 pub mod Parts
 pub mod Marks
+pub mod Convert
+pub mod Converted
+pub mod Faithful
 pub mod RunPacks
 pub mod WordsHold
 pub mod Lengths

@@ -1,4 +1,4 @@
--- A part of a file that is read in its place: where its bytes are the file's, so are the numbers and the mark that they make.
+-- A part of a file that is read in its place: where its bytes are the file's, so are the numbers, the mark and the totals that they make.
 -- Assumes nothing.
 use mathlib.Core.Path.{_≡_, refl, sym, ap, ap₂, _∙_}
 use Prim.Native.Nat.{ℕ, _+_, _-_, _*_, _≤_, _<_}
@@ -6,9 +6,10 @@ use mathlib.Core.Bool.{Bool, true, false}
 use mathlib.Core.List.{List}
 use native.Mathlib.Nat.{add-assoc, add-zero}
 use native.Mathlib.Omega.{arith}
-use lib.Dec.{ltb}
+use lib.Dec.{eqb, ltb}
 use lib.ListN.{take, drop}
 use lib.Seq.{getD-take, getD-drop}
+use Rattle.semantics.specs.Narrow.{narrow}
 use Rattle.semantics.specs.RunFile.{Layout, layoutOf, byteAt, pairAt, hasMark, markIn, markAt}
 
 -- a total has two to five bytes
@@ -38,3 +39,10 @@ module _ {n : ℕ} {part file : List ℕ} {at : ℕ} (same : Agrees n part file 
   pub total-agrees : (flagged : Bool) (i : ℕ) → i < n → layoutOf flagged .isTotalWrong part i ≡ layoutOf flagged .isTotalWrong file (at + i)
   total-agrees true i h = ap (ltb 1) (same .byte i h)
   total-agrees false i h = refl
+
+  pub total-there : (wide : Bool) (i : ℕ) → i + layoutOf wide .totalSize ≤ n → layoutOf wide .totalAt part i ≡ layoutOf wide .totalAt file (at + i)
+  total-there false i h = ap narrow (pair-agrees i h)
+  total-there true i h =
+      let high = pair-agrees (i + 1) (omega arith) ∙ ap (pairAt file) (sym (add-assoc at i 1)) in
+      let low = pair-agrees (i + 3) (omega arith) ∙ ap (pairAt file) (sym (add-assoc at i 3)) in
+      λ j. record { amount = high j * 65536 + low j; saturated = eqb (same .byte i (omega arith) j) 1 }

@@ -47,11 +47,11 @@ module _ (F : Format) (file : List ℕ) where
   fold-starts f h start e = record { judging = scan-starts (judgement F file) start e; folding = scan-starts (foldl f h) start e }
 
   -- whether a record is the last
-  last : (n : ℕ) (p : F .Place) → goesOn F file p ≡ false → recordsFrom F file (suc n) p ≡ p ∷ []
+  pub last : (n : ℕ) (p : F .Place) → goesOn F file p ≡ false → recordsFrom F file (suc n) p ≡ p ∷ []
   unfolding recordsFrom
   last n p e = ap (λ (b : Bool). p ∷ elim b [ true ↦ recordsFrom F file n (F .next file p) | false ↦ [] ]) e
 
-  more : (n : ℕ) (p : F .Place) → goesOn F file p ≡ true → recordsFrom F file (suc n) p ≡ p ∷ recordsFrom F file n (F .next file p)
+  pub more : (n : ℕ) (p : F .Place) → goesOn F file p ≡ true → recordsFrom F file (suc n) p ≡ p ∷ recordsFrom F file n (F .next file p)
   unfolding recordsFrom
   more n p e = ap (λ (b : Bool). p ∷ elim b [ true ↦ recordsFrom F file n (F .next file p) | false ↦ [] ]) e
 

@@ -1,10 +1,10 @@
--- What the clauses of the demands rule out: for each of them a result that is wrong in one respect, of which the clause is false. Were a
--- clause loosened so that such a result passes, its line here would fail.
+-- What the clauses of the demands, and of what is promised of a conversion, rule out: for each of them a result that is wrong in one respect, of which the
+-- clause is false. Were a clause loosened so that such a result passes, its line here would fail.
 -- Assumes nothing.
 use mathlib.Core.Path.{_≡_, refl, ap}
-use Prim.Native.Nat.{ℕ, _<_, _≤_}
+use Prim.Native.Nat.{ℕ, _-_, _<_, _≤_}
 use mathlib.Core.Bool.{Bool, true, false, cond, not}
-use mathlib.Core.List.{List, [], _∷_}
+use mathlib.Core.List.{List, [], _∷_, _++_, map}
 use mathlib.Core.Option.{Option, none, some}
 use native.Mathlib.Omega.{arith}
 use lib.Dec.{T, eqb, lit≤}
@@ -22,7 +22,10 @@ use Rattle.semantics.specs.Wide.{wideOperationWord as wideOperation, wid
 use Rattle.semantics.specs.Run.{Result, machine, acceptedResult, runResult, madeOutcome, refusedOutcome}
 use Rattle.semantics.specs.Demands.{cellsOf, operationsOf, replayOf, Linearizable, TotalsKept, Untouched, afterEntries, Demands}
 use Rattle.semantics.specs.Earlier.{earlierSize, refusalBy, resultBy}
+use Rattle.semantics.specs.Text.{Handed, text}
+use Rattle.semantics.specs.Convert.{FileRecord, conversion, Faithful}
 use Rattle.semantics.specs.Cases.{table, at, plain, flagged, wideAt, job, resultOf, fullTable}
+use Rattle.semantics.specs.Cases.{cellFile, rowFile, wideCellFile, wideRowFile, tableRecord, operationRecord, scheduleRecord, wideTableRecord, wideOperationRecord}
 use Rattle.semantics.proofs.Booleans.{eq→eqb}
 use Rattle.semantics.proofs.Narrow.{narrow-packing}
 use Rattle.semantics.proofs.WordsHold.{demands}
@@ -288,3 +291,105 @@ a-slice-altered h = differ (ap (λ r. getD (r .answers) 0 0) (h .refused (λ e. 
 four-cells-were-refused : resultBy earlierSize narrowWidth (table 4 []) [] [] [] [] ≡ runResult narrowWidth (table 4 []) [] [] [] [] → ⊥
 unfolding computed earlierSize refusalBy resultBy
 four-cells-were-refused e = differ (ap (λ r. r .outcome .number) e) tt
+
+-- Document 02, "A5". Each field of what is promised of a file that is converted is false of some file that is turned away; and each half of 13 is
+-- needed
+abbrev first-total : (Option Total → ℕ) → List FileRecord → ℕ
+first-total f rs = getD (map (λ (r : FileRecord). f (r .total)) rs) 1 0
+
+-- the result is not read, and is not converted back: nothing is left of an unknown mark
+not-read : Faithful false (text "XX") → ⊥
+unfolding computed
+not-read h = differ (h .accepted) tt
+
+not-converted-back : Faithful false (text "XX") → ⊥
+unfolding computed
+not-converted-back h = differ (h .back-accepted) tt
+
+-- a flagged 7 comes down as 7, which is another record, and back as another file
+a-flagged-7 : Faithful true (wideCellFile (flagged 7)) → ⊥
+unfolding computed flag
+a-flagged-7 h = differ (ap (first-total flag) (h .same-records)) tt
+
+a-flagged-7-back : Faithful true (wideRowFile (flagged 7)) → ⊥
+unfolding computed
+a-flagged-7-back h = differ (ap (λ l. getD l 8 0) (h .back)) tt
+
+-- an unflagged 65,535 comes down as a pinned one, and back with a flag
+an-unflagged-65535 : Faithful true (wideCellFile (plain 65535)) → ⊥
+unfolding computed flag
+an-unflagged-65535 h = differ (ap (first-total flag) (h .same-records)) tt
+
+an-unflagged-65535-back : Faithful true (wideRowFile (plain 65535)) → ⊥
+unfolding computed
+an-unflagged-65535-back h = differ (ap (λ l. getD l 8 0) (h .back)) tt
+
+-- of a larger number the upper bytes are gone: other words of cells and rows
+another-cell : Faithful true (wideCellFile (plain 65543)) → ⊥
+unfolding computed
+another-cell h = differ (ap (λ r. getD (r .cells) 4 0) (h .same-contents)) tt
+
+another-row : Faithful true (wideRowFile (plain 65543)) → ⊥
+unfolding computed
+another-row h = differ (ap (λ r. getD (r .operations) 0 0) (h .same-contents)) tt
+
+-- And wrong results, of which the promise of the result is false: what is written into a slice for 64 bytes, and what is refused
+abbrev written : List ℕ → Handed
+written result =
+    record { written = record { number = 0; place = 0; length = length result }; out = result ++ replicate (64 - length result) 9 }
+
+abbrev not-converted : ℕ → ℕ → List ℕ → Handed
+not-converted number place out = record { written = record { number = number; place = place; length = 0 }; out = out }
+
+abbrev Becomes : Bool → List ℕ → Handed → Type 0
+Becomes wide file h = conversion wide file (replicate 64 9) ≡ h
+
+abbrev byte : ℕ → Handed → ℕ
+byte i h = getD (h .out) i 0
+
+-- a flag left out, and one made up
+a-flag-left-out : Becomes false (rowFile 65535) (written (wideRowFile (plain 65535))) → ⊥
+unfolding computed
+a-flag-left-out e = differ (ap (byte 8) e) tt
+
+a-flag-on-65534 : Becomes false (cellFile 65534) (written (wideCellFile (flagged 65534))) → ⊥
+unfolding computed
+a-flag-on-65534 e = differ (ap (byte 9) e) tt
+
+-- 65,535 narrowed as a true total, and a flagged 7 as 7
+narrowed-as-true : Becomes true (wideCellFile (plain 65535)) (written (cellFile 65535)) → ⊥
+unfolding computed
+narrowed-as-true e = differ (ap (λ (h : Handed). h .written .number) e) tt
+
+a-flagged-7-narrowed : Becomes true (wideRowFile (flagged 7)) (written (rowFile 7)) → ⊥
+unfolding computed
+a-flagged-7-narrowed e = differ (ap (λ (h : Handed). h .written .number) e) tt
+
+-- the low byte first
+low-byte-first : Becomes true (wideRowFile (plain 258)) (written (rowFile 513)) → ⊥
+unfolding computed
+low-byte-first e = differ (ap (byte 8) e) tt
+
+-- two rows in another order, and two SC records as one
+rows-in-another-order : Becomes false (rowFile 5 ++ operationRecord 4 9 7)
+    (written (wideTableRecord 3 ++ wideOperationRecord 4 9 (plain 7) ++ wideOperationRecord 4 1 (plain 5))) → ⊥
+unfolding computed
+rows-in-another-order e = differ (ap (byte 7) e) tt
+
+records-joined : Becomes false (rowFile 5 ++ scheduleRecord (0 ∷ []) ++ scheduleRecord (0 ∷ 0 ∷ []))
+    (written (wideRowFile (plain 5) ++ scheduleRecord (0 ∷ 0 ∷ 0 ∷ []))) → ⊥
+unfolding computed
+records-joined e = differ (ap (byte 15) e) tt
+
+-- a kind that is judged; 13 at a later record than the first; a slice altered, though it is too short
+a-kind-judged : Becomes false (tableRecord 3 ++ operationRecord 200 1 5) (not-converted 11 3 (replicate 64 9)) → ⊥
+unfolding computed
+a-kind-judged e = differ (ap (λ (h : Handed). h .written .number) e) tt
+
+at-a-later-record : Becomes true (wideCellFile (flagged 7) ++ wideOperationRecord 4 1 (plain 65535)) (not-converted 13 14 (replicate 64 9)) → ⊥
+unfolding computed
+at-a-later-record e = differ (ap (λ (h : Handed). h .written .place) e) tt
+
+written-and-refused : conversion false (rowFile 5) (replicate 12 9) ≡ not-converted 3 0 (text "TW" ++ replicate 10 9) → ⊥
+unfolding computed
+written-and-refused e = differ (ap (byte 0) e) tt

@@ -21,13 +21,14 @@ use Rattle.semantics.specs.TotalsRule.{onlyFindsAndAdds, CellsSuffice}
 use Rattle.semantics.specs.Narrow.{cellWord as cell, operationWord as operation, packedAnswer as answer, roomHome, roomSum}
 use Rattle.semantics.specs.Run.{Result, runResult}
 use Rattle.semantics.specs.Demands.{cellsOf, operationsOf}
-use Rattle.semantics.specs.Text.{text}
+use Rattle.semantics.specs.Text.{text, Handed}
 use Rattle.semantics.specs.declared.Refusal.{Refusal}
 use Rattle.semantics.specs.declared.Position.{Position}
 use Rattle.semantics.specs.Records.{faultAt}
 use Rattle.semantics.specs.RunFile.{Contents, Reading, layoutOf, reading, readerRefusal, runFile, nextOf}
 use Rattle.semantics.specs.Widths.{widthOf}
 use Rattle.semantics.specs.Response.{response}
+use Rattle.semantics.specs.Convert.{conversion, conversionText}
 
 -- c cells, empty but for those named by number, key and total
 pub record Placed : Type 0 where
@@ -60,16 +61,16 @@ rounds (suc n) l = l ++ rounds n l
 abbrev pair : ℕ → List ℕ
 pair n = n / 256 ∷ n % 256 ∷ []
 
-abbrev tableRecord : ℕ → List ℕ
+abbrev pub tableRecord : ℕ → List ℕ
 tableRecord k = text "TB" ++ (k ∷ [])
 
 abbrev cellRecord : ℕ → ℕ → ℕ → List ℕ
 cellRecord n k t = text "CL" ++ pair n ++ pair k ++ pair t
 
-abbrev operationRecord : ℕ → ℕ → ℕ → List ℕ
+abbrev pub operationRecord : ℕ → ℕ → ℕ → List ℕ
 operationRecord kind k amount = text "OP" ++ (kind ∷ []) ++ pair k ++ pair amount
 
-abbrev scheduleRecord : List ℕ → List ℕ
+abbrev pub scheduleRecord : List ℕ → List ℕ
 scheduleRecord entries = text "SC" ++ (length entries ∷ entries)
 
 -- what a run leaves
@@ -124,6 +125,14 @@ pub data Case : Type 0 where
   counted : ℕ → ℕ → ℕ → ℕ → Case
   -- the sum of two wide totals, and whether a true first one became pinned
   sumsTo : Total → Total → Total → Bool → Case
+  -- what converting a file writes into a slice for so many bytes, and the number and the place of its refusal: a narrow file to a wide one, and of the
+  -- wide width a wide one to a narrow one
+  convertsIn : ℕ → List ℕ → List ℕ → Case
+  unconvertedIn : ℕ → List ℕ → ℕ → ℕ → Case
+  -- a narrow file and a wide one that are converted into each other, in a slice that is a byte longer
+  exchanged : List ℕ → List ℕ → Case
+  -- what a program that converts a file writes
+  convertedText : List ℕ → List ℕ → Case
   -- any of these of the wide width
   inWide : Case → Case
 
@@ -160,6 +169,14 @@ lentAs cells operations entries h =
 unfoldable pub readingOf : Bool → List ℕ → Contents → Reading
 readingOf wide file slices = reading (layoutOf wide) file (slices .cells) (slices .operations) (slices .schedule)
 
+-- what a call that writes bytes leaves: its number and place, how many it wrote, and the slice
+unfoldable pub handedBy : ℕ → ℕ → List ℕ → List ℕ → Handed → Bool
+handedBy number place bytes out h =
+    eqb number (h .written .number) && eqb place (h .written .place) && eqb (length bytes) (h .written .length) && sameList out (h .out)
+
+unfoldable pub convertsBy : Bool → ℕ → List ℕ → List ℕ → Bool
+convertsBy wide n file result = handedBy 0 0 result (lent n result) (conversion wide file (lent n []))
+
 unfoldable pub holdsAt : Bool → Case → Bool
 holdsAt wide (homeIs k c h) = eqb (roomHome k c) h
 holdsAt wide (sumIs a b s p) = eqb (roomSum a b) s && Bool·beq (plusAt narrowCeiling (narrow a) (narrow b) .saturated) p
@@ -183,6 +200,11 @@ holdsAt wide (counted before n number after) =
     let p : Position = record { at = 0; part = 4; size = 8; lowest = 0; operations = 1; entries = before } in
     eqb number (faultAt (runFile (layoutOf wide)) file p) && eqb after (nextOf (layoutOf wide) file p .entries)
 holdsAt wide (sumsTo a b s c) = sameTotal (plusAt wideCeiling a b) s && Bool·beq (capsAt wideCeiling a b) c
+-- "bytes past those keep what they held"
+holdsAt wide (convertsIn n file result) = convertsBy wide n file result
+holdsAt wide (unconvertedIn n file number place) = handedBy number place [] (lent n []) (conversion wide file (lent n []))
+holdsAt wide (exchanged a b) = convertsBy false (length b + 1) a b && convertsBy true (length a + 1) b a
+holdsAt wide (convertedText file bytes) = sameList (conversionText wide file) bytes
 holdsAt wide (inWide x) = holdsAt true x
 
 unfoldable pub holds : Case → Bool
@@ -367,13 +389,13 @@ smallTables =
 abbrev flaggedBytes : Total → List ℕ
 flaggedBytes t = cond (t .saturated) 1 0 ∷ pair (t .amount / 65536) ++ pair (t .amount % 65536)
 
-abbrev wideTableRecord : ℕ → List ℕ
+abbrev pub wideTableRecord : ℕ → List ℕ
 wideTableRecord k = text "TW" ++ (k ∷ [])
 
 abbrev wideCellRecord : ℕ → ℕ → Total → List ℕ
 wideCellRecord n k t = text "CL" ++ pair n ++ pair k ++ flaggedBytes t
 
-abbrev wideOperationRecord : ℕ → ℕ → Total → List ℕ
+abbrev pub wideOperationRecord : ℕ → ℕ → Total → List ℕ
 wideOperationRecord kind k t = text "OP" ++ (kind ∷ []) ++ pair k ++ flaggedBytes t
 
 -- A run in full, file in and text out: the document's own with totals round the wide ceiling, then an add to a pinned total below it, and an add of
@@ -504,6 +526,133 @@ wideTables =
     -- "a wide pinned total or amount as `atleast N`", and any other as its number
     ∷ says (wideTableRecord 3 ++ wideCellRecord 4 1 (plain 65535) ++ wideCellRecord 5 65535 (plain 0) ++ wideCellRecord 6 65534 (flagged 0) ++ wideOperationRecord 3 1 (plain 65535))
     "rows 1 done 0 lost 0 idle 0\nrow 0 update 1 65535 unfinished 0\nlog\ncell 4 1 65535\ncell 5 gone\ncell 6 65534 atleast 0\n"
+    ∷ []
+
+-- Document 02, "A5": the run in full as a wide file
+unfoldable pub inFullWidened : List ℕ
+inFullWidened =
+    (0x54 ∷ 0x57 ∷ 0x03 ∷ [])
+    ++ (0x4F ∷ 0x50 ∷ 0x04 ∷ 0x00 ∷ 0x01 ∷ 0x00 ∷ 0x00 ∷ 0x00 ∷ 0x00 ∷ 0x28 ∷ [])
+    ++ (0x4F ∷ 0x50 ∷ 0x04 ∷ 0x00 ∷ 0x09 ∷ 0x00 ∷ 0x00 ∷ 0x00 ∷ 0x00 ∷ 0x19 ∷ [])
+    ++ (0x4F ∷ 0x50 ∷ 0x04 ∷ 0x00 ∷ 0x01 ∷ 0x00 ∷ 0x00 ∷ 0x00 ∷ 0xFF ∷ 0xDC ∷ [])
+    ++ (0x53 ∷ 0x43 ∷ 0x0C ∷ 0x00 ∷ 0x01 ∷ 0x02 ∷ 0x00 ∷ 0x01 ∷ 0x02 ∷ 0x01 ∷ 0x01 ∷ 0x02 ∷ 0x02 ∷ 0x01 ∷ 0x00 ∷ [])
+
+-- and a file with every mark twice but the table's: true totals and pinned ones, and what the run turns away, which are a tombstone with a total, no
+-- kind, a find with an amount, and entries that are no rows
+unfoldable pub mixedFile : List ℕ
+mixedFile =
+    (0x54 ∷ 0x42 ∷ 0x04 ∷ [])
+    ++ (0x43 ∷ 0x4C ∷ 0x00 ∷ 0x02 ∷ 0x01 ∷ 0x02 ∷ 0x03 ∷ 0x04 ∷ [])
+    ++ (0x43 ∷ 0x4C ∷ 0x00 ∷ 0x0F ∷ 0xFF ∷ 0xFF ∷ 0xFF ∷ 0xFF ∷ [])
+    ++ (0x4F ∷ 0x50 ∷ 0xC8 ∷ 0x01 ∷ 0x02 ∷ 0xFF ∷ 0xFF ∷ [])
+    ++ (0x4F ∷ 0x50 ∷ 0x01 ∷ 0x01 ∷ 0x02 ∷ 0xFF ∷ 0xFE ∷ [])
+    ++ (0x53 ∷ 0x43 ∷ 0x01 ∷ 0x07 ∷ [])
+    ++ (0x53 ∷ 0x43 ∷ 0x02 ∷ 0xFF ∷ 0x00 ∷ [])
+
+unfoldable pub mixedWidened : List ℕ
+mixedWidened =
+    (0x54 ∷ 0x57 ∷ 0x04 ∷ [])
+    ++ (0x43 ∷ 0x4C ∷ 0x00 ∷ 0x02 ∷ 0x01 ∷ 0x02 ∷ 0x00 ∷ 0x00 ∷ 0x00 ∷ 0x03 ∷ 0x04 ∷ [])
+    ++ (0x43 ∷ 0x4C ∷ 0x00 ∷ 0x0F ∷ 0xFF ∷ 0xFF ∷ 0x01 ∷ 0x00 ∷ 0x00 ∷ 0xFF ∷ 0xFF ∷ [])
+    ++ (0x4F ∷ 0x50 ∷ 0xC8 ∷ 0x01 ∷ 0x02 ∷ 0x01 ∷ 0x00 ∷ 0x00 ∷ 0xFF ∷ 0xFF ∷ [])
+    ++ (0x4F ∷ 0x50 ∷ 0x01 ∷ 0x01 ∷ 0x02 ∷ 0x00 ∷ 0x00 ∷ 0x00 ∷ 0xFF ∷ 0xFE ∷ [])
+    ++ (0x53 ∷ 0x43 ∷ 0x01 ∷ 0x07 ∷ [])
+    ++ (0x53 ∷ 0x43 ∷ 0x02 ∷ 0xFF ∷ 0x00 ∷ [])
+
+-- files of one cell and of one row, of either width
+abbrev pub cellFile : ℕ → List ℕ
+cellFile t = tableRecord 3 ++ cellRecord 4 1 t
+
+abbrev pub rowFile : ℕ → List ℕ
+rowFile amount = tableRecord 3 ++ operationRecord 4 1 amount
+
+abbrev pub wideCellFile : Total → List ℕ
+wideCellFile t = wideTableRecord 3 ++ wideCellRecord 4 1 t
+
+abbrev pub wideRowFile : Total → List ℕ
+wideRowFile t = wideTableRecord 3 ++ wideOperationRecord 4 1 t
+
+-- a number as the total of a cell and as the amount of a row, in narrow files and in wide ones
+abbrev sameCell : ℕ → Total → Case
+sameCell n t = exchanged (cellFile n) (wideCellFile t)
+
+abbrev sameRow : ℕ → Total → Case
+sameRow n t = exchanged (rowFile n) (wideRowFile t)
+
+-- a row of any kind, key and amount below 65,535
+abbrev anyRow : ℕ → ℕ → ℕ → Case
+anyRow kind k n = exchanged (tableRecord 3 ++ operationRecord kind k n) (wideTableRecord 3 ++ wideOperationRecord kind k (plain n))
+
+-- Files that are turned away, up and down: their slice is shorter than any result, so that 3 would be met as well
+abbrev notUp : List ℕ → ℕ → ℕ → Case
+notUp file number place = unconvertedIn 2 file number place
+
+abbrev notDown : List ℕ → ℕ → ℕ → Case
+notDown file number place = inWide (unconvertedIn 2 file number place)
+
+abbrev unfitCell : Total → Case
+unfitCell t = notDown (wideCellFile t) 13 3
+
+abbrev unfitRow : Total → Case
+unfitRow t = notDown (wideRowFile t) 13 3
+
+unfoldable pub conversions : List Case
+conversions =
+    -- "Converting up keeps every record in order, a narrow 65,535 becoming flagged 65,535. Converting down gives back the same file if it came from
+    -- one."
+    exchanged inFullFile inFullWidened ∷ exchanged mixedFile mixedWidened
+    ∷ exchanged (tableRecord 0) (wideTableRecord 0) ∷ exchanged (tableRecord 12) (wideTableRecord 12)
+    -- of all numbers 65,535 alone is flagged
+    ∷ sameCell 65535 (flagged 65535) ∷ sameCell 65534 (plain 65534) ∷ sameCell 65280 (plain 65280) ∷ sameCell 255 (plain 255)
+    ∷ sameCell 1 (plain 1) ∷ sameCell 0 (plain 0)
+    ∷ sameRow 65535 (flagged 65535) ∷ sameRow 65534 (plain 65534) ∷ sameRow 65280 (plain 65280) ∷ sameRow 255 (plain 255)
+    ∷ sameRow 1 (plain 1) ∷ sameRow 0 (plain 0)
+    -- nothing that the run judges is judged: kinds, keys and amounts of rows; a tombstone with a total, a key twice and one that is not reached;
+    -- entries that are no rows
+    ∷ anyRow 0 1 0 ∷ anyRow 6 1 0 ∷ anyRow 200 1 0 ∷ anyRow 1 1 7 ∷ anyRow 5 1 65534 ∷ anyRow 4 0 1 ∷ anyRow 4 65535 1
+    ∷ exchanged (tableRecord 3 ++ cellRecord 5 65535 7) (wideTableRecord 3 ++ wideCellRecord 5 65535 (plain 7))
+    ∷ exchanged (tableRecord 3 ++ cellRecord 6 1 1 ++ cellRecord 7 1 1)
+    (wideTableRecord 3 ++ wideCellRecord 6 1 (plain 1) ++ wideCellRecord 7 1 (plain 1))
+    ∷ exchanged (tableRecord 3 ++ scheduleRecord (0 ∷ [])) (wideTableRecord 3 ++ scheduleRecord (0 ∷ []))
+    -- SC records stay as they are: two of them two, and one of them one
+    ∷ exchanged (rowFile 5 ++ scheduleRecord (0 ∷ []) ++ scheduleRecord (0 ∷ 0 ∷ [])) (wideRowFile (plain 5) ++ scheduleRecord (0 ∷ []) ++ scheduleRecord (0 ∷ 0 ∷ []))
+    ∷ exchanged (rowFile 5 ++ scheduleRecord (0 ∷ 0 ∷ 0 ∷ [])) (wideRowFile (plain 5) ++ scheduleRecord (0 ∷ 0 ∷ 0 ∷ []))
+    ∷ exchanged (rowFile 5 ++ scheduleRecord (replicate 255 0)) (wideRowFile (plain 5) ++ scheduleRecord (replicate 255 0))
+    -- "down refuses an unflagged total or amount of 65,535 or more"
+    ∷ unfitCell (plain 65535) ∷ unfitCell (plain 65536) ∷ unfitCell (plain 65537) ∷ unfitCell (plain 16777216) ∷ unfitCell (plain 4294967295)
+    ∷ unfitRow (plain 65535) ∷ unfitRow (plain 65536) ∷ unfitRow (plain 65537) ∷ unfitRow (plain 16777216) ∷ unfitRow (plain 4294967295)
+    -- "or a flagged one other than 65,535"
+    ∷ unfitCell (flagged 65534) ∷ unfitCell (flagged 7) ∷ unfitCell (flagged 0) ∷ unfitCell (flagged 65536) ∷ unfitCell (flagged 131071)
+    ∷ unfitCell (flagged 4294967295)
+    ∷ unfitRow (flagged 65534) ∷ unfitRow (flagged 7) ∷ unfitRow (flagged 0) ∷ unfitRow (flagged 65536) ∷ unfitRow (flagged 131071)
+    ∷ unfitRow (flagged 4294967295)
+    -- "with 13 at the first such record": before another, and behind one that fits
+    ∷ notDown (wideCellFile (flagged 7) ++ wideCellRecord 5 9 (plain 65535)) 13 3
+    ∷ notDown (wideCellFile (flagged 7) ++ wideOperationRecord 4 1 (plain 65535)) 13 3
+    ∷ notDown (wideCellFile (flagged 65535) ++ wideCellRecord 5 9 (plain 65535) ++ wideCellRecord 6 17 (flagged 7)) 13 14
+    ∷ notDown (wideCellFile (plain 65534) ++ wideOperationRecord 4 1 (plain 5) ++ wideOperationRecord 4 1 (flagged 0) ++ scheduleRecord (0 ∷ [])) 13 24
+    -- "After the reader's own refusals": of a later record, a mark or a body, and of the number of rows
+    ∷ notDown (wideCellFile (flagged 7) ++ text "XX") 9 14 ∷ notDown (wideRowFile (plain 65535) ++ text "CL") 9 13
+    ∷ notDown (wideRowFile (plain 65535) ++ text "S") 10 13 ∷ notDown (wideRowFile (plain 65535) ++ text "SC" ++ (2 ∷ 0 ∷ [])) 10 13
+    ∷ notDown (wideRowFile (plain 65535) ++ scheduleRecord []) 11 13
+    ∷ notDown (wideCellFile (flagged 7) ++ text "OP" ++ (4 ∷ 0 ∷ 1 ∷ 2 ∷ 0 ∷ 0 ∷ 0 ∷ 5 ∷ [])) 11 14
+    ∷ notDown (wideTableRecord 3 ++ rounds 65 (wideOperationRecord 4 1 (flagged 7))) 2 643
+    ∷ notDown (wideTableRecord 3 ++ rounds 64 (wideOperationRecord 4 1 (flagged 7))) 13 3
+    ∷ notUp (rowFile 5 ++ text "XX") 9 10 ∷ notUp (rowFile 5 ++ scheduleRecord []) 11 10 ∷ notUp (tableRecord 13) 11 0
+    ∷ notUp (tableRecord 3 ++ rounds 65 (operationRecord 1 1 0)) 2 451
+    -- a file of the other width, none at all, and one that is too long
+    ∷ notUp inFullWidened 9 0 ∷ notDown inFullFile 9 0 ∷ notUp [] 10 0 ∷ notDown [] 10 0
+    ∷ notUp (replicate 65536 0) 12 0 ∷ notDown (replicate 65536 0) 12 0 ∷ notUp (replicate 65535 0) 9 0
+    -- "then each refuses a result above 65,535 bytes with 22 at 0" is not computed here: cells and rows alone grow, by three bytes each, and there are
+    -- at most 4,096 and 64, so that it takes a file of 53,056 bytes, which is dear to compute. The tests run such files.
+    -- "then an output slice shorter than the result with 3 at 0": by one byte, and by all; one that is just long enough
+    ∷ unconvertedIn 47 inFullFile 3 0 ∷ convertsIn 48 inFullFile inFullWidened ∷ unconvertedIn 0 inFullFile 3 0
+    ∷ inWide (unconvertedIn 38 inFullWidened 3 0) ∷ inWide (convertsIn 39 inFullWidened inFullFile) ∷ inWide (unconvertedIn 0 inFullWidened 3 0)
+    -- "returns how many it wrote, and bytes past those keep what they held"
+    ∷ convertsIn 100 inFullFile inFullWidened ∷ inWide (convertsIn 100 inFullWidened inFullFile)
+    -- as programs: the result, or the line of the refusal
+    ∷ convertedText mixedFile mixedWidened ∷ inWide (convertedText mixedWidened mixedFile)
+    ∷ convertedText [] (text "refused 10 at 0\n") ∷ inWide (convertedText (wideRowFile (plain 65535)) (text "refused 13 at 3\n"))
     ∷ []
 
 -- FURTHER CASES, which the document does not work out. Each stands at an edge of one of its sentences, so that a definition that says
@@ -759,7 +908,7 @@ furtherRuns =
     ∷ []
 
 unfoldable pub cases : List Case
-cases = starred ++ capped ++ smallTables ++ wideTables ++ furtherNumbers ++ furtherCalls ++ furtherFiles ++ furtherTexts ++ furtherRuns
+cases = starred ++ capped ++ smallTables ++ wideTables ++ conversions ++ furtherNumbers ++ furtherCalls ++ furtherFiles ++ furtherTexts ++ furtherRuns
 
 -- all that demand 3 asks of a run
 pub record Meets (wide : Bool) (j : Contents) : Type 0 where

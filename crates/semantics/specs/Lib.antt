@@ -20,5 +20,6 @@ pub mod RunFile
 pub mod Listing
 pub mod Widths
 pub mod Response
+pub mod Convert
 pub mod Earlier
 pub mod Cases

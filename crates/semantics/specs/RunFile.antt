@@ -2,7 +2,7 @@
 -- Document 01, "The run file": marks, bodies and order of the records, the reader's refusals, and what it writes, for every call. What a mark
 -- stands for is a row of one table, `row`; what differs between the files of two widths is a `Layout`.
 -- Assumes nothing.
-use Prim.Native.Nat.{ℕ, _+_, _*_, _^_}
+use Prim.Native.Nat.{ℕ, _+_, _*_, _/_, _%_, _^_}
 use mathlib.Core.Bool.{Bool, true, false, cond, not, _&&_, _||_}
 use mathlib.Core.List.{List, [], _∷_, _++_, foldl}
 use lib.Dec.{eqb, ltb, leb}
@@ -15,7 +15,7 @@ use Rattle.semantics.specs.declared.Judged.{Judged}
 use Rattle.semantics.specs.declared.Loaded.{Loaded}
 use Rattle.semantics.specs.declared.Total.{Total}
 use Rattle.semantics.specs.Words.{sizeAllowed}
-use Rattle.semantics.specs.Narrow.{cellWord, operationWord}
+use Rattle.semantics.specs.Narrow.{narrow, cellWord, operationWord}
 use Rattle.semantics.specs.Wide.{wideCellWord, wideOperationWord}
 use Rattle.semantics.specs.Refusals.{Condition, firstMet, mostOperations, mostEntries}
 use Rattle.semantics.specs.Run.{over}
@@ -29,12 +29,19 @@ byteAt file i = getD file i 0
 abbrev pub pairAt : List ℕ → ℕ → ℕ
 pairAt file i = byteAt file i * 256 + byteAt file (i + 1)
 
--- What differs between the files of two widths: the letters of the table's mark; how many bytes a total or an amount has, and whether those at
--- an offset are none, which is 11; the words of a cell and of an operation whose total or amount stands at an offset.
+-- and written
+abbrev pub pairBytes : ℕ → List ℕ
+pairBytes n = n / 256 % 256 ∷ n % 256 ∷ []
+
+-- What differs between the files of two widths: the letters of the table's mark; how many bytes a total or an amount has, whether those at an
+-- offset are none, which is 11, the total that they are, and the bytes of a total; the words of a cell and of an operation whose total or
+-- amount stands at an offset.
 pub record Layout : Type 0 where
   pub tableLetters : List ℕ
   pub totalSize : ℕ
   pub isTotalWrong : List ℕ → ℕ → Bool
+  pub totalAt : List ℕ → ℕ → Total
+  pub totalBytes : Total → List ℕ
   pub cellWith : ℕ → List ℕ → ℕ → ℕ
   pub operationWith : ℕ → ℕ → List ℕ → ℕ → ℕ
 
@@ -45,6 +52,8 @@ narrowFile =
       tableLetters = text "TB";
       totalSize = 2;
       isTotalWrong = λ file at. false;
+      totalAt = λ file at. narrow (pairAt file at);
+      totalBytes = λ t. pairBytes (t .amount);
       cellWith = λ key file at. cellWord key (pairAt file at);
       operationWith = λ kind key file at. operationWord kind key (pairAt file at);
     }
@@ -53,6 +62,9 @@ narrowFile =
 abbrev pub flaggedAt : List ℕ → ℕ → Total
 flaggedAt file at = record { amount = pairAt file (at + 1) * 65536 + pairAt file (at + 3); saturated = eqb (byteAt file at) 1 }
 
+abbrev pub flaggedBytes : Total → List ℕ
+flaggedBytes t = cond (t .saturated) 1 0 ∷ (pairBytes (t .amount / 65536) ++ pairBytes (t .amount))
+
 -- "Wide files begin with TW for TB"; "another flag byte with 11"
 abbrev pub wideFile : Layout
 wideFile =
@@ -60,6 +72,8 @@ wideFile =
       tableLetters = text "TW";
       totalSize = 5;
       isTotalWrong = λ file at. ltb 1 (byteAt file at);
+      totalAt = flaggedAt;
+      totalBytes = flaggedBytes;
       cellWith = λ key file at. wideCellWord key (flaggedAt file at);
       operationWith = λ kind key file at. wideOperationWord kind key (flaggedAt file at);
     }
@@ -92,14 +106,15 @@ abbrev pub counting : Position → ℕ → ℕ → ℕ → ℕ → Position
 counting p size lowest operations entries =
     record { at = p .at; part = p .part; size = size; lowest = lowest; operations = operations; entries = entries }
 
--- A row of the table of marks: the letters of the mark; its part of the file, 0 for no mark; how many bytes its records have, and whether the
--- byte behind the mark counts others that follow; whether a body is wrong, which is 11; whether the record is one too many, which is 2; what is
+-- A row of the table of marks: the letters of the mark; its part of the file, 0 for no mark; how many bytes its records have, whether the
+-- byte behind the mark counts others that follow, and whether the last ones are a total or an amount; whether a body is wrong, which is 11; whether the record is one too many, which is 2; what is
 -- carried past it; and what the record at an offset adds to what was read.
 pub record Form : Type 0 where
   pub letters : List ℕ
   pub part : ℕ
   pub size : ℕ
   pub counted : Bool
+  pub holdsTotal : Bool
   pub isWrong : List ℕ → Position → Bool
   pub isTooMany : List ℕ → Position → Bool
   pub carried : List ℕ → Position → Position
@@ -127,6 +142,7 @@ row L Table =
       part = 1;
       size = 3;
       counted = false;
+      holdsTotal = false;
       isWrong = λ file p. not (sizeAllowed (2 ^ byteAt file (p .at + 2)));
       isTooMany = λ file p. false;
       carried = λ file p. counting p (2 ^ byteAt file (p .at + 2)) (p .lowest) (p .operations) (p .entries);
@@ -140,6 +156,7 @@ row L Cell =
       part = 2;
       size = L .totalSize + 6;
       counted = false;
+      holdsTotal = true;
       isWrong = λ file p.
           L .isTotalWrong file (p .at + 6) || ltb (pairAt file (p .at + 2)) (p .lowest) || leb (p .size) (pairAt file (p .at + 2))
           || eqb (pairAt file (p .at + 4)) 0;
@@ -159,6 +176,7 @@ row L Operation =
       part = 3;
       size = L .totalSize + 5;
       counted = false;
+      holdsTotal = true;
       isWrong = λ file p. L .isTotalWrong file (p .at + 5);
       isTooMany = λ file p. leb mostOperations (p .operations);
       carried = λ file p. counting p (p .size) (p .lowest) (p .operations + 1) (p .entries);
@@ -176,6 +194,7 @@ row L Schedule =
       part = 4;
       size = 3;
       counted = true;
+      holdsTotal = false;
       isWrong = λ file p. eqb (byteAt file (p .at + 2)) 0;
       isTooMany = λ file p. ltb mostEntries (p .entries + byteAt file (p .at + 2));
       carried = λ file p. counting p (p .size) (p .lowest) (p .operations) (p .entries + byteAt file (p .at + 2));
@@ -189,6 +208,7 @@ row L Unknown =
       part = 0;
       size = 2;
       counted = false;
+      holdsTotal = false;
       isWrong = λ file p. false;
       isTooMany = λ file p. false;
       carried = λ file p. p;

@@ -8,8 +8,7 @@ use lib.ListN.{length, length-take, length-drop}
 use Rattle.semantics.specs.declared.Mark.the-variants.{Cell, Operation, Schedule}
 use Rattle.semantics.specs.RunFile.{Layout, layoutOf, Contents, byteAt, pairAt}
 use Rattle.semantics.specs.Widths.{ofWidth}
-use Rattle.semantics.proofs.Marks.{Sound, sound}
-use Rattle.runfile.proofs.Judged.{is-known, whole-of, size-small, inside, few, short}
+use Rattle.semantics.proofs.Marks.{Sound, sound, is-known, whole-of, size-small, inside, few, short}
 use Rattle.runfile.proofs.Onward.{table-size, cell-below, entries-end}
 use Rattle.runfile.proofs.Stores.{stored-table, stored-cell, stored-operation, stored-schedule}
 use borrow.Author.Needs.{needs}

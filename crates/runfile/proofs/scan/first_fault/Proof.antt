@@ -6,7 +6,8 @@ use lib.ListN.{length}
 use Rattle.semantics.specs.Records.{faultAt, records}
 use Rattle.semantics.specs.RunFile.{Layout, layoutOf, start, runFile, nextOf}
 use Rattle.semantics.proofs.Records.{Left, judgement, scan-starts, scan-less, judge-goes-on, judge-faulty, judge-ends}
-use Rattle.runfile.proofs.Judged.{scannable, number-said, next-said}
+use Rattle.semantics.proofs.Marks.{scannable}
+use Rattle.runfile.proofs.Judged.{number-said, next-said}
 use borrow.Author.Needs.{needs}
 use Rattle.runfile.proofs.scan.first_fault.Statement.{statement}
 use Rattle.runfile.proofs.scan.first_fault.Tie as tie

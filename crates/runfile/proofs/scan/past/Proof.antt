@@ -8,8 +8,7 @@ use Rattle.semantics.specs.declared.Mark.{Mark}
 use Rattle.semantics.specs.declared.Mark.the-variants.{Cell, Operation, Schedule}
 use Rattle.semantics.specs.RunFile.{Layout, layoutOf, sizeOf}
 use Rattle.semantics.proofs.Parts.{total-bytes, part-agrees, pair-agrees}
-use Rattle.semantics.proofs.Marks.{Sound, sound}
-use Rattle.runfile.proofs.Judged.{within, is-known, whole-of, exponent, few, short}
+use Rattle.semantics.proofs.Marks.{Sound, sound, within, is-known, whole-of, exponent, few, short}
 use Rattle.runfile.proofs.Onward.{past-table, past-cell, past-operation, past-schedule}
 use borrow.Author.Needs.{needs}
 use Rattle.runfile.proofs.scan.past.Statement.{statement}

@@ -1,0 +1,4 @@
+pub mod Lone
+pub mod Rewritten
+pub mod Passes
+pub mod Answers
