@@ -5,14 +5,18 @@
 use crate::contention;
 use crate::runfile::{key_at, RunFile, Width, FIND};
 use crate::tables::{all_passing, full};
+use crate::work::{Stage, CONVERSIONS, RUNS};
 
 /// The table size of the large files: 2^12 is 4,096 cells, the most allowed.
-const LARGEST: u8 = 12;
+pub const LARGEST: u8 = 12;
 
 pub struct Case {
     pub name: String,
     pub file: Vec<u8>,
-    /// How the text must begin.
+    /// The file that is narrowed where the other one is widened; nothing where
+    /// the file is run.
+    pub wide: Option<Vec<u8>>,
+    /// How the text must begin, or what must come of both conversions.
     pub begins: String,
 }
 
@@ -21,7 +25,16 @@ impl Case {
         Case {
             name: name.to_string(),
             file,
+            wide: None,
             begins: begins.to_string(),
+        }
+    }
+
+    /// What is measured of the case.
+    pub fn stages(&self) -> &'static [Stage; 2] {
+        match self.wide {
+            None => &RUNS,
+            Some(_) => &CONVERSIONS,
         }
     }
 }
@@ -108,38 +121,53 @@ fn unreachable_key(width: Width) -> Case {
     )
 }
 
-/// The most bytes that a file may have, all cells, all operations, and as many
-/// schedule records as then fit: the last of them says two entries and has one.
-/// Fewer fit behind the longer records of a wide file, which is another job.
+/// The longest file, whose last record says two entries and has one. Fewer
+/// records fit into a wide one, which is another job.
 fn refused_at_the_last_record(width: Width) -> Case {
-    let (name, entries) = match width {
-        Width::Narrow => ("65,535 bytes, last record cut short", 8_079),
-        Width::Wide => ("65,535 wide bytes, last cut short", 4_959),
+    let name = match width {
+        Width::Narrow => "65,535 bytes, last record cut short",
+        Width::Wide => "65,535 wide bytes, last cut short",
+    };
+    let mut bytes = longest(width).bytes(width);
+    let last_count = bytes.len() - 2;
+    bytes[last_count] = 2;
+    Case::new(name, bytes, "refused 10 at 65531\n")
+}
+
+/// A file that has the most bytes in this width, with all cells, all operations,
+/// and as many schedule records as then fit.
+pub fn longest(width: Width) -> RunFile {
+    let entries = match width {
+        Width::Narrow => 8_079,
+        Width::Wide => 4_959,
     };
     let mut file = full(LARGEST);
     file.operations = all_passing(LARGEST, 64, 0).operations;
     file.schedule = (0..entries).map(|i| (i % 64) as u8).collect();
     file.entries_per_record = 1;
-    let mut bytes = file.bytes(width);
-    let last_count = bytes.len() - 2;
-    bytes[last_count] = 2;
-    assert_eq!(bytes.len(), 65_535);
-    Case::new(name, bytes, "refused 10 at 65531\n")
+    assert_eq!(file.bytes(width).len(), 65_535);
+    file
+}
+
+fn most_records(width: Width) -> Case {
+    Case::new(
+        "16,382 records, entries idle",
+        idle_records().bytes(width),
+        "rows 1 done 1 lost 0 idle 16379\n",
+    )
 }
 
 /// As many records as fit into a file of either width. The first entry finishes
 /// the operation; all others are idle.
-fn most_records(width: Width) -> Case {
+pub fn idle_records() -> RunFile {
     let mut file = RunFile::empty(3);
     file.operations = vec![(FIND, 1, 0)];
     file.schedule = vec![0; 16_380];
     file.entries_per_record = 1;
-    let bytes = file.bytes(width);
-    // Into a narrow one just one more would fit.
-    assert!(bytes.len() <= 65_535 && bytes.len() + 8 > 65_535);
-    Case::new(
-        "16,382 records, entries idle",
-        bytes,
-        "rows 1 done 1 lost 0 idle 16379\n",
-    )
+    for width in [Width::Narrow, Width::Wide] {
+        // Into a narrow one just one more would fit.
+        let bytes = file.bytes(width).len();
+        assert!(bytes <= 65_535 && bytes + 8 > 65_535);
+    }
+    file
 }

@@ -4,6 +4,7 @@
 mod cases;
 mod check;
 mod contention;
+mod conversions;
 mod counts;
 mod growth;
 mod measure;
@@ -34,9 +35,9 @@ fn main() {
         _ => fail(USAGE),
     };
     let (files, series) = match part {
-        "all" => (files(), growth::series()),
+        "all" => (files(), series()),
         "files" => (files(), Vec::new()),
-        "growth" => (Vec::new(), growth::series()),
+        "growth" => (Vec::new(), series()),
         _ => fail(USAGE),
     };
     let cases = files.iter().flat_map(|(_, cases)| cases);
@@ -56,14 +57,22 @@ fn main() {
     }
 }
 
-/// The files of a width, and what they are called together.
+/// The files of a width or those that are converted, and what they are called
+/// together. The same is measured of each.
 type Files = (&'static str, Vec<Case>);
 
 fn files() -> Vec<Files> {
     vec![
         ("files", cases::cases(Width::Narrow)),
         ("wide files", cases::cases(Width::Wide)),
+        ("converted files", conversions::cases()),
     ]
+}
+
+fn series() -> Vec<Series> {
+    let mut series = growth::series();
+    series.extend(conversions::series());
+    series
 }
 
 fn fail(message: &str) -> ! {
@@ -97,7 +106,7 @@ fn print(files: &[Files], series: &[Series], figures: &[[Figures; 2]]) {
     for &(name, cases, figures) in &of_files {
         print::figures_of_files(name, cases, figures);
     }
-    if let [(_, narrow, of_narrow), (_, wide, of_wide)] = of_files[..] {
+    if let [(_, narrow, of_narrow), (_, wide, of_wide), _] = of_files[..] {
         print::wide_by_narrow((narrow, of_narrow), (wide, of_wide));
     }
     for series in series {

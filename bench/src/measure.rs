@@ -4,7 +4,7 @@ use std::time::{Duration, Instant};
 
 use crate::cases::Case;
 use crate::counts::Counts;
-use crate::work::{Counted, Stage, Work, STAGES};
+use crate::work::{Counted, Stage, Work};
 
 /// All cases are timed this often, one after the other: a slow spell of the
 /// machine then meets a case in some passes and not in all.
@@ -46,8 +46,8 @@ pub struct Figures {
 
 /// Makes each call of a case once, in the order in which the counts are read.
 pub fn call_once(case: &Case) {
-    let mut work = Work::new(&case.file);
-    for stage in STAGES {
+    let mut work = Work::new(case);
+    for stage in case.stages() {
         (stage.proved)(&mut work);
         (stage.rust)(&mut work);
     }
@@ -70,11 +70,11 @@ pub fn figures(cases: &[&Case], counts: Option<Counts>) -> Vec<[Figures; 2]> {
 /// The instructions of the stages of each case, from the counts of `call_once`
 /// on the same cases.
 pub fn instructions(cases: &[&Case], mut counts: Counts) -> Vec<[Pair; 2]> {
-    let mut of_stage = |stage: Stage| Pair {
+    let mut of_stage = |stage: &Stage| Pair {
         proved: counts.following(stage.proved_name) as f64,
         rust: counts.following(stage.rust_name) as f64,
     };
-    let of_case = |_| STAGES.map(&mut of_stage);
+    let of_case = |case: &&Case| case.stages().each_ref().map(&mut of_stage);
     let counted = cases.iter().map(of_case).collect();
     assert!(counts.is_empty(), "more calls were counted than made here");
     counted
@@ -84,8 +84,8 @@ fn nanoseconds(cases: &[&Case]) -> Vec<[Pair; 2]> {
     let mut best = vec![[Pair::NONE; 2]; cases.len()];
     for _ in 0..PASSES {
         for (case, best) in cases.iter().zip(&mut best) {
-            let mut work = Work::new(&case.file);
-            for (stage, best) in STAGES.iter().zip(best) {
+            let mut work = Work::new(case);
+            for (stage, best) in case.stages().iter().zip(best) {
                 pass(stage, &mut work, best);
             }
         }

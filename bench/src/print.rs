@@ -4,12 +4,16 @@ use crate::cases::Case;
 use crate::check::outcome;
 use crate::growth::Series;
 use crate::measure::{Figures, Pair};
-use crate::work::STAGES;
+use crate::work::RUNS;
 
 /// What the files are, so that the figures below can be judged.
 pub fn files(name: &str, cases: &[Case]) {
     let title = capital(name);
-    println!("\n{title:<36}{:>8}   first line of the text", "bytes");
+    let comes = match cases.iter().any(|case| case.wide.is_some()) {
+        true => "what comes of both conversions",
+        false => "first line of the text",
+    };
+    println!("\n{title:<36}{:>8}   {comes}", "bytes");
     for case in cases {
         let bytes = grouped(case.file.len() as f64);
         println!("{:<36}{bytes:>8}   {}", case.name, outcome(case));
@@ -18,7 +22,7 @@ pub fn files(name: &str, cases: &[Case]) {
 
 /// The figures of one stage of each file.
 pub fn figures_of_files(name: &str, cases: &[Case], figures: &[[Figures; 2]]) {
-    for (number, stage) in STAGES.iter().enumerate() {
+    for (number, stage) in cases[0].stages().iter().enumerate() {
         println!("\n{}: {}", capital(name), stage.name);
         println!("{:<36}{}", "", head(figures));
         for (case, figures) in cases.iter().zip(figures) {
@@ -34,7 +38,7 @@ type Measured<'a> = (&'a [Case], &'a [[Figures; 2]]);
 /// the same name costs it.
 pub fn wide_by_narrow(narrow: Measured, wide: Measured) {
     println!("\nThe proved side, wide divided by narrow, where both are the same job");
-    let [run, report] = STAGES.map(|stage| stage.name);
+    let [run, report] = RUNS.each_ref().map(|stage| stage.name);
     println!("{:<36}{run:>20}{report:>20}", "");
     println!(
         "{:<36}{:>10}{:>10}{:>10}{:>10}",
@@ -67,7 +71,8 @@ fn capital(name: &str) -> String {
 /// further cell, operation or entry costs from one point to the following.
 pub fn series(series: &Series, figures: &[[Figures; 2]]) {
     println!("\nGrowth. {}", series.name);
-    for (number, stage) in STAGES.iter().enumerate() {
+    let stages = series.points[0].case.stages();
+    for (number, stage) in stages.iter().enumerate() {
         let (above, head_of_slope) = match has_instructions(figures) {
             true => (format!("instructions per further {}", series.unit), SLOPE),
             false => (String::new(), ""),
@@ -90,7 +95,7 @@ pub fn series(series: &Series, figures: &[[Figures; 2]]) {
 /// name, and the instructions of both sides.
 pub fn lines(group: &str, case: &Case, instructions: Option<&[Pair; 2]>) {
     let instructions = instructions.expect("every case has its counts");
-    for (stage, pair) in STAGES.iter().zip(instructions) {
+    for (stage, pair) in case.stages().iter().zip(instructions) {
         let (name, proved, rust) = (&case.name, pair.proved, pair.rust);
         println!("{}\t{group}\t{name}\t{proved}\t{rust}", stage.name);
     }

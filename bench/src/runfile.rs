@@ -35,13 +35,13 @@ impl Width {
         }
     }
 
-    /// Writes a total or an amount. A wide one has no flag: it is as true as
-    /// the narrow one.
+    /// Writes a total or an amount. A wide one has a flag where the narrow one
+    /// is pinned.
     fn total(self, out: &mut Vec<u8>, total: u16) {
         match self {
             Width::Narrow => out.extend_from_slice(&total.to_be_bytes()),
             Width::Wide => {
-                out.push(0);
+                out.push(u8::from(total == u16::MAX));
                 out.extend_from_slice(&u32::from(total).to_be_bytes());
             }
         }

@@ -6,7 +6,9 @@
 use std::hint::black_box;
 
 use calls::Proved;
-use model::{Loaded, Outcome, Word};
+use model::{Loaded, Outcome, Word, Written};
+
+use crate::cases::Case;
 
 /// No text is longer, of either width: the proved report is never refused with
 /// it. A line of a wide cell has at most 35 bytes and one of an operation 66, so
@@ -16,8 +18,10 @@ const LONGEST_TEXT: usize = 147_456;
 /// A file and all that is lent to the calls. Both sides get the same slices.
 pub struct Work<'a> {
     pub file: &'a [u8],
+    /// What is narrowed; nothing where the file is run.
+    pub wide: &'a [u8],
     pub slices: Slices,
-    /// The slice that the proved report writes into.
+    /// The slice that the proved report and the converters write into.
     pub out: Vec<u8>,
     /// What the Rust report appends to; it has room for the longest text.
     pub text: Vec<u8>,
@@ -92,13 +96,15 @@ impl<W: Proved> Lent<W> {
 }
 
 impl<'a> Work<'a> {
-    pub fn new(file: &'a [u8]) -> Work<'a> {
+    pub fn new(case: &'a Case) -> Work<'a> {
+        let file = &case.file;
         let slices = match file.starts_with(u64::MARK) {
             true => Slices::Wide(Lent::new()),
             false => Slices::Narrow(Lent::new()),
         };
         Work {
             file,
+            wide: case.wide.as_deref().unwrap_or_default(),
             slices,
             out: vec![0x55; LONGEST_TEXT],
             text: Vec::with_capacity(LONGEST_TEXT),
@@ -129,6 +135,22 @@ impl<'a> Work<'a> {
         model::report(self.file, &mut self.text);
         &self.text
     }
+
+    pub fn proved_widen(&mut self) -> Written {
+        calls::convert::<u32>(self.file, &mut self.out)
+    }
+
+    pub fn rust_widen(&mut self) -> Written {
+        model::widen(self.file, &mut self.out)
+    }
+
+    pub fn proved_narrow(&mut self) -> Written {
+        calls::convert::<u64>(self.wide, &mut self.out)
+    }
+
+    pub fn rust_narrow(&mut self) -> Written {
+        model::narrow(self.wide, &mut self.out)
+    }
 }
 
 /// One of the functions below.
@@ -144,7 +166,8 @@ pub struct Stage {
     pub rust_name: &'static str,
 }
 
-pub const STAGES: [Stage; 2] = [
+/// The stages of a file that is run.
+pub static RUNS: [Stage; 2] = [
     Stage {
         name: "load and run",
         proved: counted_proved_run,
@@ -158,6 +181,24 @@ pub const STAGES: [Stage; 2] = [
         rust: counted_rust_report,
         proved_name: "counted_proved_report",
         rust_name: "counted_rust_report",
+    },
+];
+
+/// The stages of two files that are converted, one each way.
+pub static CONVERSIONS: [Stage; 2] = [
+    Stage {
+        name: "widen",
+        proved: counted_proved_widen,
+        rust: counted_rust_widen,
+        proved_name: "counted_proved_widen",
+        rust_name: "counted_rust_widen",
+    },
+    Stage {
+        name: "narrow",
+        proved: counted_proved_narrow,
+        rust: counted_rust_narrow,
+        proved_name: "counted_proved_narrow",
+        rust_name: "counted_rust_narrow",
     },
 ];
 
@@ -183,4 +224,28 @@ pub extern "C" fn counted_proved_report(work: &mut Work) {
 #[inline(never)]
 pub extern "C" fn counted_rust_report(work: &mut Work) {
     black_box(work.rust_report());
+}
+
+#[no_mangle]
+#[inline(never)]
+pub extern "C" fn counted_proved_widen(work: &mut Work) {
+    black_box(work.proved_widen());
+}
+
+#[no_mangle]
+#[inline(never)]
+pub extern "C" fn counted_rust_widen(work: &mut Work) {
+    black_box(work.rust_widen());
+}
+
+#[no_mangle]
+#[inline(never)]
+pub extern "C" fn counted_proved_narrow(work: &mut Work) {
+    black_box(work.proved_narrow());
+}
+
+#[no_mangle]
+#[inline(never)]
+pub extern "C" fn counted_rust_narrow(work: &mut Work) {
+    black_box(work.rust_narrow());
 }

@@ -4,7 +4,7 @@
 
 pub mod width;
 
-use model::{Loaded, Outcome, Word};
+use model::{Loaded, Outcome, Word, Written};
 
 /// What a run returns, as C has it.
 #[repr(C)]
@@ -26,13 +26,22 @@ pub struct RawLoaded {
     entries: usize,
 }
 
-/// What a call that writes bytes returns.
+/// What a call that writes bytes returns, as C has it.
 #[repr(C)]
-#[derive(Debug, Clone, Copy, PartialEq, Eq)]
-pub struct Written {
-    pub number: u32,
-    pub place: usize,
-    pub length: usize,
+pub struct RawWritten {
+    number: u32,
+    place: usize,
+    length: usize,
+}
+
+impl RawWritten {
+    fn written(self) -> Written {
+        Written {
+            number: self.number,
+            place: self.place,
+            length: self.length,
+        }
+    }
 }
 
 /// The run of a width: cells, operations, schedule, answers, log.
@@ -61,15 +70,20 @@ pub type RawLoad<W> = unsafe extern "C" fn(
     usize,
 ) -> RawLoaded;
 
-/// A word for whose width there are a proved run and a proved reader.
+/// A call that writes bytes: file, output slice.
+pub type RawWrite = unsafe extern "C" fn(*const u8, usize, *mut u8, usize) -> RawWritten;
+
+/// A word for whose width there are a proved run, a proved reader and a proved
+/// converter, which takes a file of this width and writes it in the other.
 pub trait Proved: Word {
     const RUN: RawRun<Self>;
     const LOAD: RawLoad<Self>;
+    const CONVERT: RawWrite;
 }
 
-/// Declares the two functions of a width.
+/// Declares the three functions of a width.
 macro_rules! proved {
-    ($word:ty, $run:ident, $load:ident) => {
+    ($word:ty, $run:ident, $load:ident, $convert:ident) => {
         extern "C" {
             fn $run(
                 cells: *mut $word,
@@ -94,20 +108,28 @@ macro_rules! proved {
                 schedule: *mut u8,
                 schedule_len: usize,
             ) -> RawLoaded;
+
+            fn $convert(
+                file: *const u8,
+                file_len: usize,
+                out: *mut u8,
+                out_len: usize,
+            ) -> RawWritten;
         }
 
         impl Proved for $word {
             const RUN: RawRun<$word> = $run;
             const LOAD: RawLoad<$word> = $load;
+            const CONVERT: RawWrite = $convert;
         }
     };
 }
 
-proved!(u32, room_run, room_load);
-proved!(u64, room_run_wide, room_load_wide);
+proved!(u32, room_run, room_load, room_widen);
+proved!(u64, room_run_wide, room_load_wide, room_narrow);
 
 extern "C" {
-    fn room_report(file: *const u8, file_len: usize, out: *mut u8, out_len: usize) -> Written;
+    fn room_report(file: *const u8, file_len: usize, out: *mut u8, out_len: usize) -> RawWritten;
 }
 
 pub fn run<W: Proved>(
@@ -170,5 +192,15 @@ pub fn load<W: Proved>(
 
 /// The report takes a file of either width.
 pub fn report(file: &[u8], out: &mut [u8]) -> Written {
-    unsafe { room_report(file.as_ptr(), file.len(), out.as_mut_ptr(), out.len()) }
+    write(room_report, file, out)
+}
+
+/// The converter that takes files of this width.
+pub fn convert<W: Proved>(file: &[u8], out: &mut [u8]) -> Written {
+    write(W::CONVERT, file, out)
+}
+
+fn write(call: RawWrite, file: &[u8], out: &mut [u8]) -> Written {
+    let raw = unsafe { call(file.as_ptr(), file.len(), out.as_mut_ptr(), out.len()) };
+    raw.written()
 }

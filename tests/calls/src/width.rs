@@ -6,12 +6,15 @@
 
 use std::ops::Range;
 
-use generated::files::{case, wide_case};
+use generated::files::{case, conversion_case, wide_case};
 use generated::random::Random;
+use generated::width;
+use model::Written;
 
 use crate::Proved;
 
 pub trait Width: Proved {
+    type Other: Width;
     /// The key in a cell.
     const CELL_KEY: u64;
     /// The key in an operation and the code in an answer: both stand right
@@ -53,6 +56,12 @@ pub trait Width: Proved {
     /// A generated file of this width.
     fn file(seed: u64, index: usize) -> Vec<u8>;
 
+    /// A generated file of this width that is made for the converters.
+    fn conversion(seed: u64, index: usize) -> Vec<u8>;
+
+    /// The second model's converter that takes files of this width.
+    fn convert(file: &[u8], out: &mut [u8]) -> Written;
+
     fn cell(key: u64, total: u64) -> Self {
         Self::word(key * Self::CELL_KEY + total)
     }
@@ -93,6 +102,8 @@ pub trait Width: Proved {
 }
 
 impl Width for u32 {
+    type Other = u64;
+
     const CELL_KEY: u64 = 65_536;
     const ABOVE: u64 = 65_536;
     const KIND: u64 = 4_294_967_296;
@@ -125,6 +136,14 @@ impl Width for u32 {
     fn file(seed: u64, index: usize) -> Vec<u8> {
         case(seed, index).file
     }
+
+    fn conversion(seed: u64, index: usize) -> Vec<u8> {
+        conversion_case(width::Width::Narrow, seed, index).file
+    }
+
+    fn convert(file: &[u8], out: &mut [u8]) -> Written {
+        model::widen(file, out)
+    }
 }
 
 /// The flag of a wide total.
@@ -137,6 +156,8 @@ const LARGEST: u64 = 4_294_967_294;
 const HELD: u64 = FLAG + 4_294_967_295;
 
 impl Width for u64 {
+    type Other = u32;
+
     const CELL_KEY: u64 = 281_474_976_710_656;
     const ABOVE: u64 = 8_589_934_592;
     const KIND: u64 = 562_949_953_421_312;
@@ -221,6 +242,14 @@ impl Width for u64 {
 
     fn file(seed: u64, index: usize) -> Vec<u8> {
         wide_case(seed, index).file
+    }
+
+    fn conversion(seed: u64, index: usize) -> Vec<u8> {
+        conversion_case(width::Width::Wide, seed, index).file
+    }
+
+    fn convert(file: &[u8], out: &mut [u8]) -> Written {
+        model::narrow(file, out)
     }
 }
 

@@ -1,7 +1,7 @@
 //! Calls of the report, on files of either width: output slices of every length.
 
 use calls::width::Width;
-use calls::Written;
+use model::Written;
 
 /// What is written into a slice of a length, over bytes that are 0x55.
 fn into(length: usize, write: &dyn Fn(&mut [u8]) -> Written) -> (Written, Vec<u8>) {

@@ -44,7 +44,7 @@ fn refusal(row: &'static str, wrong: impl Into<String>, place: char) -> Refusal 
     }
 }
 
-fn place(first: bool, last: bool) -> char {
+pub fn place(first: bool, last: bool) -> char {
     match (first, last) {
         (true, _) => 'f',
         (_, true) => 'l',
@@ -79,7 +79,7 @@ pub fn classify(file: &[u8], number: u32, at: usize) -> Option<Refusal> {
 }
 
 /// The mark at an offset and the length of its record, if it is whole.
-fn record(file: &[u8], at: usize) -> (&'static str, usize) {
+pub fn record(file: &[u8], at: usize) -> (&'static str, usize) {
     let width = Width::of(file);
     let rest = &file[at..];
     match rest.get(..2) {

@@ -48,10 +48,29 @@ const LINES: &[(&str, &str)] = &[
     ("refused 6", "number of rows:fml, 255:fml, other:fml, no rows:f"),
     ("refused 7", "cell:ml"),
     ("refused 8", "cell:fml"),
+    ("converted", "fitting, and back"),
+    ("converted, k", "0, 1, 2, 3, 4, 5, 6, 7, 8, 9, 10, 11, 12"),
+    ("converted, has", "none, CL, OP, SC, CL OP, CL SC, OP SC, CL OP SC"),
+    ("converted with", "0 in CL, 65534 in CL, pinned in CL, tombstone with a total, 0 in OP, 65534 in OP, pinned in OP, \
+        several SC, SC of 1, SC of 255, 64 rows, 16384 entries, 65535 bytes when wide"),
+    ("converted, refused by the run", "4, 5, 6, 7, 8"),
+    ("not converted", "2, 9, 10, 11, 12"),
+    ("not converted by the other", "9, 12"),
 ];
 
-/// What wide files show besides, as lines or as more items of those. Where
-/// either side of a sum had a flag, `true by flagged below` is one whose whole
+/// What narrow files show besides: 22 for a result of 65,536 bytes or of more,
+/// and the refusals that decide before it. What has no first mark is read as a
+/// narrow file, so that only these are refused with 10 by both converters.
+#[rustfmt::skip]
+const NARROW_LINES: &[(&str, &str)] = &[
+    ("converted", "long"),
+    ("not converted 22", "by one, by more"),
+    ("not converted by the other", "10"),
+    ("not converted, before 22", "2, 9, 10, 11, 12"),
+];
+
+/// What wide files show besides, as lines or as more items of those. Of 13, the
+/// place is that among the records with the mark. Where either side of a sum had a flag, `true by flagged below` is one whose whole
 /// sum is below the ceiling. `found 65535` is a total that is listed so, and
 /// true; `found atleast` one that is listed with its flag.
 #[rustfmt::skip]
@@ -64,6 +83,9 @@ const WIDE_LINES: &[(&str, &str)] = &[
     ("refused 11", "CL flag 2:fml, CL flag 255:fml, CL other flag:fml, OP flag 2:fml, OP flag 255:fml, OP other flag:fml"),
     ("refused 4", "flag alone:fml, total and flag:fml, unflagged ceiling:fml"),
     ("refused 5", "find flag:fml, remove flag:fml, unflagged ceiling:fml"),
+    ("not converted 13", "unflagged 65535 in CL:fml, unflagged above in CL:fml, flagged below in CL:fml, flagged above in CL:fml, \
+        unflagged 65535 in OP:fml, unflagged above in OP:fml, flagged below in OP:fml, flagged above in OP:fml"),
+    ("not converted, before 13", "2, 9, 10, 11, 12, 13"),
 ];
 
 #[derive(Default)]
@@ -138,12 +160,14 @@ fn lines(width: Width) -> Vec<(String, String)> {
         )
     };
     let mut lines: Vec<(String, String)> = LINES.iter().map(shared).collect();
-    if width == Width::Wide {
-        for &(title, items) in WIDE_LINES {
-            match lines.iter_mut().find(|line| line.0 == title) {
-                Some((_, there)) => *there += &format!(", {items}"),
-                None => lines.push((title.into(), items.into())),
-            }
+    let own = match width {
+        Width::Narrow => NARROW_LINES,
+        Width::Wide => WIDE_LINES,
+    };
+    for &(title, items) in own {
+        match lines.iter_mut().find(|line| line.0 == title) {
+            Some((_, there)) => *there += &format!(", {items}"),
+            None => lines.push((title.into(), items.into())),
         }
     }
     let recipes: Vec<&str> = RECIPES.iter().map(|recipe| recipe.name).collect();

@@ -1,5 +1,6 @@
 //! Which file stands at which index.
 
+use crate::conversions::conversion;
 use crate::damage::{mutated, noise, prefix, shuffled, single};
 use crate::fixed::{fixed, Fixed};
 use crate::pairs::{pair, Pair};
@@ -11,13 +12,34 @@ use crate::width::Width;
 
 /// A generated file, and what is known of it.
 pub struct Case {
+    pub stream: Stream,
     /// The width that it is made in; a damaged file may be read in the other.
     pub width: Width,
     pub family: &'static str,
     pub file: Vec<u8>,
     pub pair: Option<Pair>,
+    /// The file without the fault for which a converter refuses it, where it has
+    /// another then.
+    pub without: Option<Vec<u8>>,
     /// The name of a fixed case, and how its text begins.
     pub fixed: Option<(&'static str, String)>,
+}
+
+/// Files of every sort, or those that are made for the converters: these seldom
+/// take the others, and seldom refuse them for what they alone judge.
+#[derive(Clone, Copy, PartialEq)]
+pub enum Stream {
+    Every,
+    Conversions,
+}
+
+impl Stream {
+    pub fn name(self) -> &'static str {
+        match self {
+            Stream::Every => "",
+            Stream::Conversions => "conversion ",
+        }
+    }
 }
 
 /// Families and how many files each has in a round.
@@ -34,8 +56,10 @@ const FAMILIES: &[(&str, usize)] = &[
     ("sized", 1),
 ];
 
-/// What sets the numbers of wide files apart from those of narrow ones.
+/// What sets the numbers of wide files apart from those of narrow ones, and
+/// those of files for the converters from the others.
 const WIDE: u64 = 0x5749_4445;
+const CONVERSIONS: u64 = 0x434F_4E56;
 
 /// A narrow file, the same for the same seed and index, for ever.
 pub fn case(seed: u64, index: usize) -> Case {
@@ -47,11 +71,30 @@ pub fn wide_case(seed: u64, index: usize) -> Case {
     case_of(Width::Wide, seed, index)
 }
 
-pub fn case_of(width: Width, seed: u64, index: usize) -> Case {
-    let seed = match width {
+/// A file that is made for the converters.
+pub fn conversion_case(width: Width, seed: u64, index: usize) -> Case {
+    let random = &mut Random::new(seed_of(width, seed) ^ CONVERSIONS, index as u64);
+    let made = conversion(width, index, random);
+    Case {
+        stream: Stream::Conversions,
+        width,
+        family: made.family,
+        file: made.file,
+        pair: None,
+        without: made.without,
+        fixed: None,
+    }
+}
+
+fn seed_of(width: Width, seed: u64) -> u64 {
+    match width {
         Width::Narrow => seed,
         Width::Wide => seed ^ WIDE,
-    };
+    }
+}
+
+pub fn case_of(width: Width, seed: u64, index: usize) -> Case {
+    let seed = seed_of(width, seed);
     let round: usize = FAMILIES.iter().map(|family| family.1).sum();
     let mut slot = index % round;
     let mut families = FAMILIES.iter();
@@ -74,10 +117,12 @@ fn made(
     random: &mut Random,
 ) -> Case {
     let mut case = Case {
+        stream: Stream::Every,
         width,
         family,
         file: Vec::new(),
         pair: None,
+        without: None,
         fixed: None,
     };
     match family {
@@ -107,7 +152,12 @@ fn made(
 
 /// A run with no CL, no OP, no SC, or any of these together.
 fn without_parts(width: Width, number: usize, random: &mut Random) -> Plan {
-    let mut plan = plan(width, &RECIPES[random.below(SMALL)], random);
+    let plan = plan(width, &RECIPES[random.below(SMALL)], random);
+    with_parts(plan, number)
+}
+
+/// Leaves out CL, OP and SC as the bits of a number say.
+pub fn with_parts(mut plan: Plan, number: usize) -> Plan {
     if number & 1 != 0 {
         plan.cells.clear();
     }

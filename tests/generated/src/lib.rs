@@ -4,6 +4,8 @@
 mod ceiling;
 mod classify;
 pub mod compare;
+mod conversions;
+mod converted;
 mod coverage;
 mod damage;
 mod doubles;

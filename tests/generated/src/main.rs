@@ -1,16 +1,18 @@
-//! Puts generated run files through a program and through the second model,
-//! and compares what they write: `generated ROOMRUN [SEED [COUNT]]`. There are
-//! COUNT narrow files, and half as many wide ones.
+//! Puts generated run files through the programs and through the second model,
+//! and compares what they write: `generated ROOMRUN [SEED [COUNT]]`. The
+//! converters roomwiden and roomnarrow are beside ROOMRUN. There are COUNT narrow
+//! files, half as many wide ones, and some more that are made for the converters.
 //!
 //! What must have occurred at least once, and did not, has failed; a count far
 //! below the usual one leaves such gaps.
 
-use std::path::{Path, PathBuf};
+use std::path::Path;
 use std::process::ExitCode;
 use std::sync::atomic::{AtomicUsize, Ordering};
 use std::time::Instant;
 
-use generated::compare::{Tally, Worker};
+use generated::compare::{Programs, Tally, Worker};
+use generated::files::Stream;
 use generated::width::Width;
 
 const WORKERS: usize = 2;
@@ -32,8 +34,15 @@ fn main() -> ExitCode {
         eprintln!("usage: generated ROOMRUN [SEED [COUNT]]");
         return ExitCode::from(2);
     };
+    let programs = Programs::beside(Path::new(program));
+    for program in programs.all() {
+        if !program.is_file() {
+            eprintln!("generated: {} is not there", program.display());
+            return ExitCode::from(2);
+        }
+    }
     let begun = Instant::now();
-    let mut tally = compared(&PathBuf::from(program), seed, count as usize);
+    let mut tally = compared(&programs, seed, count as usize);
     let (items, never) = tally.coverage.print();
     tally.passed += items - never.len();
     tally.failed += never.len();
@@ -41,12 +50,14 @@ fn main() -> ExitCode {
         println!("FAILED never occurred: {item}");
     }
     println!(
-        "generated: {} files (seed {seed}; {} wide; {} accepted, {} refused; {} differ), \
-         {} checks of demands ({} at every prefix), {items} items of coverage, {} s",
+        "generated: {} files (seed {seed}; {} wide; {} accepted, {} refused; {} converted, {} of them and back; \
+         {} differ), {} checks of demands ({} at every prefix), {items} items of coverage, {} s",
         tally.files,
-        count / 2,
+        tally.wide,
         tally.accepted,
         tally.refused,
+        tally.converted,
+        tally.back,
         tally.differ,
         tally.checks,
         tally.prefixes,
@@ -57,22 +68,33 @@ fn main() -> ExitCode {
 }
 
 /// Compares all files, each worker taking the next that no other has.
-fn compared(program: &Path, seed: u64, count: usize) -> Tally {
+fn compared(programs: &Programs, seed: u64, count: usize) -> Tally {
     let next = AtomicUsize::new(0);
+    let streams = [
+        (Stream::Every, Width::Narrow, count),
+        (Stream::Every, Width::Wide, count / 2),
+        (Stream::Conversions, Width::Narrow, count / 50),
+        (Stream::Conversions, Width::Wide, count / 5),
+    ];
     let work = |number: usize| {
         let name = format!("generated-{}-{number}.run", std::process::id());
         let mut worker = Worker {
-            program,
+            programs,
             seed,
             input: std::env::temp_dir().join(name),
             tally: Tally::default(),
         };
-        loop {
-            match next.fetch_add(1, Ordering::Relaxed) {
-                index if index < count => worker.check(Width::Narrow, index),
-                index if index < count + count / 2 => worker.check(Width::Wide, index - count),
-                _ => break,
+        // One after the other, those of a stream from index 0 on.
+        'files: loop {
+            let mut index = next.fetch_add(1, Ordering::Relaxed);
+            for (stream, width, files) in streams {
+                if index < files {
+                    worker.check(stream, width, index);
+                    continue 'files;
+                }
+                index -= files;
             }
+            break;
         }
         let _ = std::fs::remove_file(&worker.input);
         worker.tally

@@ -208,7 +208,7 @@ fn stored_again(lines: &[Line]) -> bool {
 }
 
 /// Which parts a file has besides its TB.
-fn has<W: Word>(start: &Start<W>) -> String {
+pub fn has<W: Word>(start: &Start<W>) -> String {
     let parts = [
         ("CL", start.cells.iter().any(|&word| word != W::EMPTY)),
         ("OP", !start.operations.is_empty()),

@@ -114,7 +114,7 @@ pub fn base(width: Width, rows: &[&str], random: &mut Random) -> Plan {
     plan
 }
 
-fn most_operations(plan: &mut Plan) {
+pub fn most_operations(plan: &mut Plan) {
     let few = plan.operations.clone();
     plan.operations = few.into_iter().cycle().take(MOST_OPERATIONS).collect();
 }
@@ -147,7 +147,12 @@ fn both_of_run(width: Width, first: &str, second: &str, random: &mut Random) -> 
 }
 
 /// A fault of this row. With `whole`, one that leaves all records in place.
-fn chosen(row: &str, parts: &Parts, whole: bool, random: &mut Random) -> Option<(usize, Fault)> {
+pub fn chosen(
+    row: &str,
+    parts: &Parts,
+    whole: bool,
+    random: &mut Random,
+) -> Option<(usize, Fault)> {
     let faults = parts.faults(row, any_place(random), random);
     let which = random.below(faults.len());
     let fault = faults.into_iter().nth(which)?;

@@ -21,7 +21,12 @@ fn exactly(width: Width, bytes: usize, random: &mut Random) -> Vec<u8> {
             ..PLAIN
         },
     };
-    let mut plan = plan(width, &recipe, random);
+    let plan = plan(width, &recipe, random);
+    padded(plan, bytes, random)
+}
+
+/// The file of a plan whose schedule is made as long as gives this many bytes.
+pub fn padded(mut plan: Plan, bytes: usize, random: &mut Random) -> Vec<u8> {
     let rest = bytes - length_without_schedule(&plan);
     // Three bytes for each record and one for each entry.
     let fewest = rest
@@ -35,7 +40,7 @@ fn exactly(width: Width, bytes: usize, random: &mut Random) -> Vec<u8> {
     plan.records(&counts).file()
 }
 
-fn length_without_schedule(plan: &Plan) -> usize {
+pub fn length_without_schedule(plan: &Plan) -> usize {
     let cells = plan.width.cell_bytes() * plan.cells.len();
     3 + cells + plan.width.operation_bytes() * plan.operations.len()
 }

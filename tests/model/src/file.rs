@@ -5,14 +5,14 @@ use crate::refuse::{MOST_ENTRIES, MOST_OPERATIONS};
 use crate::word::Word;
 
 const MOST_CELLS: usize = 4_096;
-const MOST_BYTES: usize = 65_535;
+pub(crate) const MOST_BYTES: usize = 65_535;
 
 /// The lengths of the records, mark included. A cell's and an operation's end
 /// with a total or an amount, whose bytes the width says; a record of entries
 /// has as many bytes more as its count says.
-const TABLE_BYTES: usize = 3;
-const CELL_BYTES: usize = 6;
-const OPERATION_BYTES: usize = 5;
+pub(crate) const TABLE_BYTES: usize = 3;
+pub(crate) const CELL_BYTES: usize = 6;
+pub(crate) const OPERATION_BYTES: usize = 5;
 const ENTRIES_BYTES: usize = 3;
 
 /// What the reader returns: the number and place of a refusal, or 0 and 0 and
@@ -37,7 +37,7 @@ enum Sort {
 }
 
 /// What the records read so far have said.
-struct Shape {
+pub(crate) struct Shape {
     /// The sort of the record before; nothing at the start of the file.
     before: Option<Sort>,
     c: usize,
@@ -60,9 +60,6 @@ pub fn load<W: Word>(
         || schedule.len() < MOST_ENTRIES;
     if short {
         return refused(3, 0);
-    }
-    if file.len() > MOST_BYTES {
-        return refused(12, 0);
     }
     match check::<W>(file) {
         Ok(shape) => {
@@ -90,7 +87,11 @@ fn refused(number: u32, place: usize) -> Loaded {
 }
 
 /// Takes the records in file order up to the end, or to the first faulty one.
-fn check<W: Word>(file: &[u8]) -> Result<Shape, (u32, usize)> {
+/// Gives the number and place of a refusal, all but that of a lent slice.
+pub(crate) fn check<W: Word>(file: &[u8]) -> Result<Shape, (u32, usize)> {
+    if file.len() > MOST_BYTES {
+        return Err((12, 0));
+    }
     let mut shape = Shape {
         before: None,
         c: 0,
@@ -188,6 +189,29 @@ fn pair(bytes: &[u8], at: usize) -> u16 {
     u16::from_be_bytes([bytes[at], bytes[at + 1]])
 }
 
+/// The records of each sort behind the first, together as they stand in the
+/// file.
+pub(crate) struct Sections<'a> {
+    pub(crate) cells: &'a [u8],
+    pub(crate) operations: &'a [u8],
+    pub(crate) entries: &'a [u8],
+}
+
+impl Shape {
+    /// Takes apart the file that had this shape.
+    pub(crate) fn sections<'a, W: Word>(&self, file: &'a [u8]) -> Sections<'a> {
+        let rest = &file[TABLE_BYTES..];
+        let (cells, rest) = rest.split_at(self.named * (CELL_BYTES + W::TOTAL_BYTES));
+        let (operations, entries) =
+            rest.split_at(self.operations * (OPERATION_BYTES + W::TOTAL_BYTES));
+        Sections {
+            cells,
+            operations,
+            entries,
+        }
+    }
+}
+
 /// Writes what a file that passed the check says.
 fn fill<W: Word>(
     file: &[u8],
@@ -198,22 +222,21 @@ fn fill<W: Word>(
 ) {
     let cell_bytes = CELL_BYTES + W::TOTAL_BYTES;
     let operation_bytes = OPERATION_BYTES + W::TOTAL_BYTES;
-    let rest = &file[TABLE_BYTES..];
-    let (named, rest) = rest.split_at(shape.named * cell_bytes);
-    let (rows, mut rest) = rest.split_at(shape.operations * operation_bytes);
+    let sections = shape.sections::<W>(file);
     cells[..shape.c].fill(W::EMPTY);
-    for record in named.chunks_exact(cell_bytes) {
+    for record in sections.cells.chunks_exact(cell_bytes) {
         let total = W::total_of_bytes(&record[CELL_BYTES..]);
         cells[usize::from(pair(record, 2))] = W::pack(pair(record, 4), total);
     }
     for (operation, record) in operations
         .iter_mut()
-        .zip(rows.chunks_exact(operation_bytes))
+        .zip(sections.operations.chunks_exact(operation_bytes))
     {
         let amount: u64 = W::total_of_bytes(&record[OPERATION_BYTES..]).into();
         let kind_and_key = u64::from(record[2]) << 16 | u64::from(pair(record, 3));
         *operation = kind_and_key << W::TOTAL_BITS | amount;
     }
+    let mut rest = sections.entries;
     let mut written = 0;
     while !rest.is_empty() {
         let count = usize::from(rest[2]);

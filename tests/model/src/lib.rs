@@ -6,6 +6,7 @@
 //! The names are the usual ones of the field; where the specification has a
 //! word of its own, the comment at the definition gives it.
 
+mod convert;
 pub mod demands;
 mod file;
 mod list;
@@ -15,6 +16,7 @@ mod run;
 mod step;
 mod word;
 
+pub use convert::{narrow, widen, Written};
 pub use file::{load, Loaded};
 pub use list::list;
 pub use refuse::refusal;

@@ -70,6 +70,13 @@ pub trait Word: Copy + Eq + Debug + From<u32> + Into<u64> {
 
     /// The total that such bytes say, high byte first.
     fn total_of_bytes(bytes: &[u8]) -> Self::Total;
+
+    /// Writes such bytes for a total.
+    fn write_total(total: Self::Total, bytes: &mut [u8]);
+
+    /// The total that says this number and is saturated or not, as asked;
+    /// nothing where the width has none.
+    fn total_saying(number: u32, saturated: bool) -> Option<Self::Total>;
 }
 
 /// The narrow width: key in the upper sixteen bits, total in the lower.
@@ -142,6 +149,18 @@ impl Word for u32 {
     #[inline]
     fn total_of_bytes(bytes: &[u8]) -> u16 {
         u16::from_be_bytes([bytes[0], bytes[1]])
+    }
+
+    #[inline]
+    fn write_total(total: u16, bytes: &mut [u8]) {
+        bytes.copy_from_slice(&total.to_be_bytes());
+    }
+
+    #[inline]
+    fn total_saying(number: u32, saturated: bool) -> Option<u16> {
+        let total = u16::try_from(number).ok()?;
+        // The number alone says whether it is saturated.
+        (u32::is_saturated(total) == saturated).then_some(total)
     }
 }
 
@@ -226,6 +245,17 @@ impl Word for u64 {
     fn total_of_bytes(bytes: &[u8]) -> u64 {
         let number = u32::from_be_bytes([bytes[1], bytes[2], bytes[3], bytes[4]]);
         u64::from(bytes[0]) << 32 | u64::from(number)
+    }
+
+    #[inline]
+    fn write_total(total: u64, bytes: &mut [u8]) {
+        bytes[0] = u8::from(u64::is_saturated(total));
+        bytes[1..].copy_from_slice(&u64::number(total).to_be_bytes());
+    }
+
+    #[inline]
+    fn total_saying(number: u32, saturated: bool) -> Option<u64> {
+        Some(u64::from(saturated) << 32 | u64::from(number))
     }
 }
 
