@@ -13,7 +13,7 @@ use lib.ListN.{length, getD, set, replicate, length-replicate, replicate-append-
 use lib.Seq.{set-out}
 use borrow.Author.Tests.{lt-ltb, le-ltb}
 use Rattle.semantics.specs.declared.Total.{Total}
-use Rattle.semantics.specs.Cells.{Cell, empty, tombstone, live, Answer, found, present, changed, removed, inserted, absent, full, capped, codeOf, totalOf}
+use Rattle.semantics.specs.Cells.{Cell, empty, tombstone, live, Answer, found, present, changed, removed, inserted, absent, full, capped, retained, codeOf, totalOf}
 use Rattle.semantics.specs.Words.{nothing, carried, encode, answerWord}
 use Rattle.semantics.specs.Narrow.{cellWord, packedAnswer, narrowWidth}
 use Rattle.semantics.specs.Wide.{wideCellWord, widePackedAnswer, wideWidth}
@@ -216,6 +216,7 @@ code-small (removed t) = refl
 code-small absent = refl
 code-small full = refl
 code-small (capped t) = refl
+code-small (retained t) = refl
 
 answer-word : (flagged : Bool) (a : Answer Total) → T (widthOf flagged .isTotal (carried (totalOf a)))
     → let x = answerParts a in

@@ -46,7 +46,7 @@ pub fn cell_word(key: u16, total: u16) -> u32
     joined(key, total)
 }
 
-// An answer: its code above its total. A code is at most 7, but any word has sixteen bits there.
+// An answer: its code above its total. A code is at most 9, but any word has sixteen bits there.
 pub fn answer_word(code: u8, total: u16) -> u32
     ensures { λ r. ⌜ r ≡ packedAnswer code total ⌝ }
 {

@@ -8,8 +8,8 @@ use lib.Dec.{ltb, ltb→lt}
 use borrow.Author.Tests.{le-leb, lt-leb}
 use Rattle.semantics.specs.declared.Total.{Total}
 use Rattle.semantics.specs.Totals.{heldAt, plusAt, caps, capsAt}
-use Rattle.semantics.specs.Cells.{changed, capped, codeOf, totalOf}
-use Rattle.semantics.specs.Step.{makes, effect, fateCell}
+use Rattle.semantics.specs.Cells.{update, changed, capped, codeOf, totalOf}
+use Rattle.semantics.specs.Step.{makes, updating, effect, fateCell}
 use Rattle.semantics.specs.Words.{isKind, kindOf}
 use Rattle.semantics.proofs.Booleans.{both, true-T}
 use Rattle.rules.specs.declared.effect.Operation.{Operation as OperationParts}
@@ -18,7 +18,7 @@ use Rattle.rules.specs.declared.effect.Sum.{Sum}
 use Rattle.rules.specs.declared.effect.Rule.{Rule}
 use Rattle.rules.specs.Values.{operationOf, cellParts, answerParts}
 use Rattle.semantics.specs.Words.{nothing, carried}
-use Rattle.rules.specs.Rule.{ruleOf, ruleIf, isStay}
+use Rattle.rules.specs.Rule.{ruleOf, ruleIf, ruleBy, isStay}
 
 -- the sum of two totals, below the ceiling and from it on
 module _ (ceiling : ℕ) (a b : Total) where
@@ -60,16 +60,25 @@ module _ (ceiling c : ℕ) (o : OperationParts) (t : Total) where
   abbrev says : Bool → Bool → ℕ → ℕ → Total → Rule
   says makes stays code key new = answers makes stays (record { code = code; total = t }) key new
 
+  -- the rule of an update, by whether the total is saturated
+  abbrev updates : Bool → Rule
+  updates z = ruleBy ceiling c (record { kind = update; key = o .key; amount = o .amount }) t (updating t (o .amount) z)
+
   pub rule-kinds : (s : Sum) (coded : ℕ)
       → s ≡ record { total = plusAt ceiling t (o .amount); capped = capsAt ceiling t (o .amount) } → coded ≡ cond (s .capped) 8 4
       → (o .kind ≡ 1 → says false true 1 (o .key) t ≡ ruleOf ceiling c o t)
       × (o .kind ≡ 2 → says true true 3 (o .key) t ≡ ruleOf ceiling c o t)
-      × (o .kind ≡ 3 → says false false 4 (o .key) (o .amount) ≡ ruleOf ceiling c o t)
+      × (o .kind ≡ 3 → (t .saturated ≡ true → says false true 9 (o .key) t ≡ ruleOf ceiling c o t)
+      × (t .saturated ≡ false → says false false 4 (o .key) (o .amount) ≡ ruleOf ceiling c o t))
       × (o .kind ≡ 4 → says true false coded (o .key) (s .total) ≡ ruleOf ceiling c o t)
       × (o .kind ≡ 5 → says false false 5 65535 nothing ≡ ruleOf ceiling c o t)
-  unfolding ruleIf isKind kindOf makes effect caps capsAt isStay fateCell cellParts answerParts codeOf totalOf carried
-  rule-kinds s coded is is-coded = (rule-by, rule-by, rule-by, λ e. add ∙ rule-by e, rule-by)
+  unfolding ruleIf isKind kindOf makes updating effect caps capsAt isStay fateCell cellParts answerParts codeOf totalOf carried
+  rule-kinds s coded is is-coded = (rule-by, rule-by, λ e. (λ q. by-flag q ∙ rule-by e, λ q. by-flag q ∙ rule-by e), λ e. add ∙ rule-by e, rule-by)
     where
+      -- an update, by whether the total is saturated
+      by-flag : {z : Bool} → t .saturated ≡ z → updates z ≡ rule-at 3
+      by-flag q = ap updates (sym q)
+
       add : says true false coded (o .key) (s .total) ≡ rule-at 4
       add =
           ap (λ (n : ℕ). says true false n (o .key) (s .total)) is-coded

@@ -6,7 +6,7 @@ use Prim.Native.Nat.{ℕ}
 use mathlib.Core.Bool.{Bool, true, false}
 use Rattle.semantics.specs.declared.Total.{Total}
 use Rattle.semantics.specs.Cells.{Operation}
-use Rattle.semantics.specs.Step.{Fate, stays, ends, becomes, makes, effect, fateCell}
+use Rattle.semantics.specs.Step.{Fate, stays, ends, becomes, Effect, makes, effect, fateCell}
 use Rattle.semantics.specs.Words.{settingAt, isKind}
 use Rattle.rules.specs.declared.effect.Operation.{Operation as OperationParts}
 use Rattle.rules.specs.declared.effect.Rule.{Rule}
@@ -19,9 +19,8 @@ isStay stays = true
 isStay ends = false
 isStay (becomes u) = false
 
-unfoldable pub ruleIf : Bool → ℕ → ℕ → Operation Total → Total → Rule
-ruleIf true ceiling c o t =
-    let e = effect (settingAt ceiling c) (o .kind) t (o .amount) in
+abbrev pub ruleBy : ℕ → ℕ → Operation Total → Total → Effect Total → Rule
+ruleBy ceiling c o t e =
     record {
       known = true;
       makes = makes (o .kind);
@@ -29,6 +28,9 @@ ruleIf true ceiling c o t =
       cell = cellParts (fateCell (settingAt ceiling c) (o .key) t (e .fate));
       answer = answerParts (e .answer);
     }
+
+unfoldable pub ruleIf : Bool → ℕ → ℕ → Operation Total → Total → Rule
+ruleIf true ceiling c o t = ruleBy ceiling c o t (effect (settingAt ceiling c) (o .kind) t (o .amount))
 ruleIf false ceiling c o t =
     record { known = false; makes = false; stays = false; cell = record { key = 0; total = nothing }; answer = record { code = 0; total = nothing } }
 

@@ -10,7 +10,7 @@ ghost use Rattle.rules.specs.Rule.{ruleOf};
 use semantics::Total;
 
 // Document 01's numbers of the kinds are 1 find, 2 insert, 3 update, 4 add, 5 remove; its codes of the
-// answers are these, 8 of document 02. An operation that is not finished has code 0.
+// answers are these, 8 and 9 of document 02. An operation that is not finished has code 0.
 pub const FOUND: u32 = 1;
 
 pub const INSERTED: u32 = 2;
@@ -26,6 +26,9 @@ pub const ABSENT: u32 = 6;
 pub const FULL: u32 = 7;
 
 pub const CAPPED: u32 = 8;
+
+// Document 02's held: the update of a saturated total, which stays. Held is a word before its swap.
+pub const RETAINED: u32 = 9;
 
 // The total of an answer that carries none, and of a tombstone.
 pub const NOTHING: Total = Total {
@@ -123,7 +126,12 @@ pub(crate) fn rule_of(ceiling: u32, operation: Operation, total: Total) -> Rule
     match kind {
         1 => known(false, true, FOUND, total, key, total),
         2 => known(true, true, PRESENT, total, key, total),
-        3 => known(false, false, CHANGED, total, key, amount),
+        3 => {
+            if total.saturated {
+                return known(false, true, RETAINED, total, key, total);
+            }
+            known(false, false, CHANGED, total, key, amount)
+        }
         4 => {
             let sum = sum_of(ceiling, total, amount);
             let new = sum.total;

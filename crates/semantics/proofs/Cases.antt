@@ -37,7 +37,7 @@ unfoldable pub computed : Unit {0}
 unfolding
     resultOf holds cases inFull longer edge wideInFull
     Cases.holdsAt Cases.wideTables Cases.wideInFullFile Cases.wideInFullText
-    Cases.conversions Cases.inFullWidened Cases.mixedFile Cases.mixedWidened Cases.handedBy Cases.convertsBy
+    Cases.conversions Cases.inFullWidened Cases.mixedFile Cases.mixedWidened Cases.handedBy Cases.convertsBy Cases.retained
     Cases.resultWith Cases.leftBy Cases.sameList Cases.readBy Cases.refusedBy Cases.lent Cases.lentAs Cases.readingOf
     Cases.starred Cases.capped Cases.smallTables Cases.oneRoom Cases.oneRoomFile Cases.oneRoomText Cases.inFullFile Cases.inFullText Cases.goneFile Cases.goneText
     Cases.furtherNumbers Cases.furtherCalls Cases.furtherFiles Cases.furtherTexts Cases.furtherRuns Cases.everyFile Cases.everyText
@@ -48,7 +48,7 @@ unfolding
     Words.kindOf Words.decodeOperation Words.takesAmount Words.isKind Words.carried Words.answerWord
     Wide.isWideTotal Wide.isNothing Wide.wideCellAllowed Wide.wideOperationAllowed
     Narrow.tombstoneWord Narrow.cellAllowed Narrow.operationAllowed Narrow.roomHome Narrow.roomSum
-    Step.sight Step.makes Step.fresh Step.after Step.countLost Step.logged Step.idled Step.answered Step.doneCount Step.effect
+    Step.sight Step.makes Step.fresh Step.after Step.countLost Step.logged Step.idled Step.answered Step.doneCount Step.updating Step.effect
     Step.readOwn Step.read Step.exhausted Step.bounded Step.heldCell Step.fateCell Step.newCell Step.swapAnswer Step.sameCell
     Step.swapped Step.step Step.passed Step.placeOf Step.taken Step.actIn Step.actOf Step.applied Step.entry Step.freshRow Step.begin Step.run
     TotalsRule.isAdd TotalsRule.isFindOrAdd TotalsRule.onlyFindsAndAdds TotalsRule.isPresent TotalsRule.addsTo TotalsRule.isAdded

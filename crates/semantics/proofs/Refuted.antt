@@ -1,9 +1,9 @@
 -- What the clauses of the demands, and of what is promised of a conversion, rule out: for each of them a result that is wrong in one respect, of which the
 -- clause is false. Were a clause loosened so that such a result passes, its line here would fail.
 -- Assumes nothing.
-use mathlib.Core.Path.{_≡_, refl, ap}
+use mathlib.Core.Path.{_≡_, refl, ap, sym}
 use Prim.Native.Nat.{ℕ, _-_, _<_, _≤_}
-use mathlib.Core.Bool.{Bool, true, false, cond, not}
+use mathlib.Core.Bool.{Bool, true, false, cond, not, true≢false}
 use mathlib.Core.List.{List, [], _∷_, _++_, map}
 use mathlib.Core.Option.{Option, none, some}
 use native.Mathlib.Omega.{arith}
@@ -29,13 +29,14 @@ use Rattle.semantics.specs.Cases.{cellFile, rowFile, wideCellFile, wideR
 use Rattle.semantics.proofs.Booleans.{eq→eqb}
 use Rattle.semantics.proofs.Narrow.{narrow-packing}
 use Rattle.semantics.proofs.WordsHold.{demands}
+use Rattle.semantics.proofs.Pinned.{isPinned}
 use Rattle.semantics.proofs.Cases.{computed}
 
 -- every definition that the map and the totals rule compute with, beside those that a run does
 unfoldable replayed : Unit {0}
 unfolding
     computed replayOf Basics.occurs Totals.amounts Totals.anySaturated Totals.sumAt
-    Map.withPair Map.unchanged Map.replaced Map.added Map.mapOf Map.stored Map.perform Map.performed Map.noted Map.replayOne Map.replay
+    Map.withPair Map.unchanged Map.replaced Map.added Map.updated Map.mapOf Map.stored Map.perform Map.performed Map.noted Map.replayOne Map.replay
     TotalsRule.amountsAdded TotalsRule.expectedFrom TotalsRule.expected TotalsKept Untouched
 replayed = tt
 
@@ -123,6 +124,30 @@ capped-called-changed h = differ (ap (λ l. getD l 1 0) (h .answers)) tt
 capped-with-the-new-total : Linearizable narrowWidth start over (left pinned (answer 4 40 ∷ answer 8 65535 ∷ []) (0 ∷ 1 ∷ []) 2) → ⊥
 unfolding replayed
 capped-with-the-new-total h = differ (ap (λ l. getD l 1 0) (h .answers)) tt
+
+-- and of document 02, "A6", where an update reads a pinned total: the total typed over, called changed or held; held with the new amount; and a true
+-- total held
+abbrev tidy : List ℕ
+tidy = operation 3 1 50 ∷ []
+
+abbrev tidied : List ℕ
+tidied = table 8 (at 4 1 50 ∷ [])
+
+typed-over : Linearizable narrowWidth pinned tidy (left tidied (answer 9 65535 ∷ []) (0 ∷ []) 1) → ⊥
+unfolding replayed amount
+typed-over h = differ (ap amount (h .pairs 1)) tt
+
+typed-over-and-changed : Linearizable narrowWidth pinned tidy (left tidied (answer 4 65535 ∷ []) (0 ∷ []) 1) → ⊥
+unfolding replayed
+typed-over-and-changed h = differ (ap (λ l. getD l 0 0) (h .answers)) tt
+
+retained-with-the-new-amount : Linearizable narrowWidth pinned tidy (left pinned (answer 9 50 ∷ []) (0 ∷ []) 1) → ⊥
+unfolding replayed
+retained-with-the-new-amount h = differ (ap (λ l. getD l 0 0) (h .answers)) tt
+
+a-true-total-retained : Linearizable narrowWidth start tidy (left start (answer 9 40 ∷ []) (0 ∷ []) 1) → ⊥
+unfolding replayed
+a-true-total-retained h = differ (ap (λ l. getD l 0 0) (h .answers)) tt
 
 another-order : Linearizable narrowWidth start adds (left added both (1 ∷ 0 ∷ []) 2) → ⊥
 unfolding replayed
@@ -231,7 +256,25 @@ not-capped-by-a-flag : Linearizable wideWidth (table 8 (wideAt 4 1 (plain 3) ∷
 unfolding replayed
 not-capped-by-a-flag h = differ (ap (λ l. getD l 0 0) (h .answers)) tt
 
--- and each of its hypotheses is needed: a run that meets the other two, and of which the sums are false
+-- and an update of a pinned total below the ceiling that is typed over
+typed-over-below-the-ceiling : Linearizable wideWidth (table 8 (wideAt 4 1 (flagged 3) ∷ [])) (wideOperation 3 1 (plain 50) ∷ [])
+    (left (table 8 (wideAt 4 1 (plain 50) ∷ [])) (wideAnswer 4 (flagged 3) ∷ []) (0 ∷ []) 1) → ⊥
+unfolding replayed
+typed-over-below-the-ceiling h = differ (ap (λ l. getD l 0 0) (h .answers)) tt
+
+-- What is claimed of a pinned room is false of a result that has typed it over, and of a room that is removed
+abbrev Pinned : List ℕ → Type 0
+Pinned cells = isPinned (lookup 1 (cellsOf narrowWidth cells)) ≡ true
+
+no-longer-pinned : Pinned tidied → ⊥
+unfolding replayed isPinned
+no-longer-pinned h = true≢false (sym h)
+
+a-room-removed : Pinned (resultOf false (job pinned (operation 5 1 0 ∷ []) (0 ∷ 0 ∷ [])) .cells) → ⊥
+unfolding replayed isPinned
+a-room-removed h = true≢false (sym h)
+
+-- and each hypothesis of demand 3 is needed: a run that meets the other two, and of which the sums are false
 abbrev Sums : List ℕ → List ℕ → Result → Type 0
 Sums cells operations r =
     (k : ℕ) → lookup k (cellsOf narrowWidth (r .cells)) ≡ TotalsRule.expected (settingOf narrowWidth (length cells)) (cellsOf narrowWidth cells) (operationsOf narrowWidth operations) k
@@ -274,6 +317,12 @@ a-count-made-up : Demands narrowWidth start adds racing slices slices
     (record { outcome = madeOutcome 2 0 0; cells = added; answers = both; log = 0 ∷ 1 ∷ [] }) → ⊥
 unfolding replayed
 a-count-made-up h = differ (ap (λ r. r .outcome .lost) (h .result)) tt
+
+-- an update that has read a pinned total and waits for its swap
+a-swap-that-decides : Demands narrowWidth pinned tidy (0 ∷ []) (9 ∷ []) (9 ∷ [])
+    (record { outcome = madeOutcome 0 0 0; cells = pinned; answers = answer 0 0 ∷ []; log = 9 ∷ [] }) → ⊥
+unfolding replayed
+a-swap-that-decides h = differ (ap (λ r. r .outcome .done) (h .result)) tt
 
 another-place : Demands narrowWidth twice adds racing slices slices (turned-away 7 4 slices) → ⊥
 unfolding replayed

@@ -15,7 +15,7 @@ use Rattle.semantics.specs.Totals.{caps}
 use Rattle.semantics.specs.Cells.{Setting, Cell, empty, Kind, find, insert, update, add, remove, Operation, Answer, absent, full, changed, capped, totalOf}
 use Rattle.semantics.specs.Step.{Pending, reading, holding, State, pending, finished, Row, Machine, idled}
 use Rattle.semantics.specs.Step.{Sight, own, free, other, sight, Fate, stays, ends, becomes, holds, Held, vacant, mine, finishes, passes, fresh, after}
-use Rattle.semantics.specs.Step.{makes, effect, readOwn, read, exhausted, bounded}
+use Rattle.semantics.specs.Step.{makes, updating, effect, readOwn, read, exhausted, bounded}
 use Rattle.semantics.specs.Step.{heldCell, sameCell, swapAnswer, swapped, step, passed, placeOf, taken, entry, freshRow, begin, run}
 use Rattle.semantics.specs.Words.{Width, carried, settingOf}
 use Rattle.semantics.proofs.Lists.{elem-set-all, elem-map-all, set-everywhere}
@@ -59,10 +59,14 @@ module _ {W : Width} (P : Packing W) (c : ℕ) where
 
   -- an answer carries the total that its operation found, or none
   effect-carries : (kind : Kind) (t u : Total) → carried (totalOf (effect S kind t u .answer)) ≡ t
-  unfolding effect carried totalOf
+  unfolding updating effect carried totalOf
   effect-carries find t u = refl
   effect-carries insert t u = refl
-  effect-carries update t u = refl
+  effect-carries update t u = go (S .saturated t)
+    where
+      go : (z : Bool) → carried (totalOf (updating t u z .answer)) ≡ t
+      go true = refl
+      go false = refl
   effect-carries add t u = go (caps (S .saturated t) (S .saturated (S .plus t u)))
     where
       go : (z : Bool) → carried (totalOf (cond z (capped t) (changed t))) ≡ t

@@ -16,9 +16,9 @@ use Rattle.semantics.specs.Totals.{caps}
 use Rattle.semantics.specs.Cells.{Setting, Cell, empty, tombstone, live, Kind, find, insert, update, add, remove, Operation, Answer, absent, full, inserted, changed, capped}
 use Rattle.semantics.specs.Cells.{keyed, isEmpty, usedCells}
 use Rattle.semantics.specs.Step.{Sight, own, free, other, sight, Held, vacant, mine, passes, holds, finishes, Pending, reading, holding, pending}
-use Rattle.semantics.specs.Step.{Turn, Effect, Fate, stays, ends, becomes, Stepped, makes, after, logged, effect, readOwn, read, exhausted, bounded}
+use Rattle.semantics.specs.Step.{Turn, Effect, Fate, stays, ends, becomes, Stepped, makes, after, logged, updating, effect, readOwn, read, exhausted, bounded}
 use Rattle.semantics.specs.Step.{heldCell, fateCell, newCell, swapAnswer, sameCell, swapped, step, passed, placeOf}
-use Rattle.semantics.specs.Map.{Map, Done, withPair, unchanged, replaced, added, stored, perform, performed}
+use Rattle.semantics.specs.Map.{Map, Done, withPair, unchanged, replaced, added, updated, stored, perform, performed}
 use Rattle.semantics.proofs.Laws.{Lawful}
 use Rattle.semantics.proofs.Lists.{none-some}
 use Rattle.semantics.proofs.Booleans.{true-T, same-cell-sound}
@@ -56,10 +56,14 @@ module _ (S : Setting) (L : Lawful S) where
 
   perform-some : (kind : Kind) (k : ℕ) (a : S .Total) (m : Map (S .Total)) (t : S .Total)
       → perform S kind k a m (some t) ≡ by-fate k m (effect S kind t a .answer) (effect S kind t a .fate)
-  unfolding perform effect by-fate
+  unfolding perform updated updating effect by-fate
   perform-some find k a m t = refl
   perform-some insert k a m t = refl
-  perform-some update k a m t = refl
+  perform-some update k a m t = go (S .saturated t)
+    where
+      go : (z : Bool) → updated k a m t z ≡ by-fate k m (updating t a z .answer) (updating t a z .fate)
+      go true = refl
+      go false = refl
   perform-some add k a m t = ap (replaced k (some (S .plus t a)) m) (answers-alike t (S .saturated t) (S .saturated (S .plus t a)))
   perform-some remove k a m t = refl
 

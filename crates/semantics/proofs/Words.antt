@@ -3,6 +3,7 @@
 -- Assumes nothing.
 use mathlib.Core.Path.{_≡_, refl, ap, sym, subst, _∙_}
 use Prim.Native.Nat.{ℕ, zero, suc, _≤_, _<_}
+use mathlib.Core.Bool.{Bool, true, false}
 use mathlib.Core.List.{List, map}
 use native.Mathlib.Omega.{arith}
 use lib.Dec.{T, ltb, ltb→lt, lt→ltb}
@@ -10,7 +11,7 @@ use lib.ListN.{length, getD, List·getD-map}
 use Rattle.semantics.specs.declared.Total.{Total}
 use Rattle.semantics.specs.Totals.{plusAt}
 use Rattle.semantics.specs.Cells.{Cell, empty, tombstone, live, Kind, find, insert, update, add, remove, Operation}
-use Rattle.semantics.specs.Step.{Held, vacant, mine, effect, heldCell, fateCell, newCell}
+use Rattle.semantics.specs.Step.{Held, vacant, mine, updating, effect, heldCell, fateCell, newCell}
 use Rattle.semantics.specs.Words.{Width, isLiveKey, tombstoneKey, nothing, cellFrom, decode, encode, settingOf}
 use Rattle.semantics.specs.Words.{kindOf, kindNumber, isKind, decodeOperation, encodeOperation}
 use Rattle.semantics.proofs.Lists.{map-back}
@@ -103,10 +104,14 @@ module _ {W : Width} (P : Packing W) where
   module _ (c : ℕ) where
     fate-packs : (kind : Kind) (k : ℕ) (t u : Total) → Packed W k t → Packed W k u
         → Packs W (fateCell (settingOf W c) k t (effect (settingOf W c) kind t u .fate))
-    unfolding fateCell effect
+    unfolding fateCell updating effect
     fate-packs find k t u p q = p
     fate-packs insert k t u p q = p
-    fate-packs update k t u p q = q
+    fate-packs update k t u p q = go (settingOf W c .saturated t)
+      where
+        go : (z : Bool) → Packs W (fateCell (settingOf W c) k t (updating t u z .fate))
+        go true = p
+        go false = q
     fate-packs add k t u p q = plus-packed p q
     fate-packs remove k t u p q = tt
 

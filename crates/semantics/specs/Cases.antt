@@ -123,6 +123,8 @@ pub data Case : Type 0 where
   judgedIn : ℕ → ℕ → ℕ → List ℕ → ℕ → ℕ → Case
   -- the number that turns away an SC record of n entries where so many came before it, and how many there are after it
   counted : ℕ → ℕ → ℕ → ℕ → Case
+  -- the number that turns away the first record of some bytes where so many operations came before it
+  afterRows : ℕ → List ℕ → ℕ → Case
   -- the sum of two wide totals, and whether a true first one became pinned
   sumsTo : Total → Total → Total → Bool → Case
   -- what converting a file writes into a slice for so many bytes, and the number and the place of its refusal: a narrow file to a wide one, and of the
@@ -199,6 +201,8 @@ holdsAt wide (counted before n number after) =
     let file = scheduleRecord (replicate n 0) in
     let p : Position = record { at = 0; part = 4; size = 8; lowest = 0; operations = 1; entries = before } in
     eqb number (faultAt (runFile (layoutOf wide)) file p) && eqb after (nextOf (layoutOf wide) file p .entries)
+holdsAt wide (afterRows before file number) =
+    eqb number (faultAt (runFile (layoutOf wide)) file (record { at = 0; part = 3; size = 8; lowest = 0; operations = before; entries = 0 }))
 holdsAt wide (sumsTo a b s c) = sameTotal (plusAt wideCeiling a b) s && Bool·beq (capsAt wideCeiling a b) c
 -- "bytes past those keep what they held"
 holdsAt wide (convertsIn n file result) = convertsBy wide n file result
@@ -516,8 +520,8 @@ wideTables =
     ∷ says (wideTableRecord 3 ++ text "CL" ++ (0 ∷ 4 ∷ 0 ∷ 1 ∷ 2 ∷ 0 ∷ 0 ∷ 0 ∷ 5 ∷ [])) "refused 11 at 3\n"
     ∷ says (wideTableRecord 3 ++ wideOperationRecord 1 1 (plain 0) ++ text "OP" ++ (4 ∷ 0 ∷ 1 ∷ 255 ∷ 0 ∷ 0 ∷ 0 ∷ 5 ∷ [])) "refused 11 at 13\n"
     ∷ says (wideTableRecord 3 ++ text "OP" ++ (4 ∷ 0 ∷ 1 ∷ 2 ∷ 0 ∷ 0 ∷ 0 ∷ [])) "refused 10 at 3\n"
-    ∷ inWide (judged (wideTableRecord 3 ++ rounds 64 (wideOperationRecord 1 1 (plain 0)) ++ text "OP" ++ (4 ∷ 0 ∷ 1 ∷ 2 ∷ 0 ∷ 0 ∷ 0 ∷ 5 ∷ [])) 11 643)
-    ∷ inWide (judged (wideTableRecord 3 ++ rounds 65 (wideOperationRecord 1 1 (plain 0))) 2 643)
+    ∷ inWide (afterRows 64 (text "OP" ++ (4 ∷ 0 ∷ 1 ∷ 2 ∷ 0 ∷ 0 ∷ 0 ∷ 5 ∷ [])) 11)
+    ∷ inWide (afterRows 64 (wideOperationRecord 1 1 (plain 0)) 2) ∷ inWide (afterRows 63 (wideOperationRecord 1 1 (plain 0)) 0)
     -- what the run refuses is passed on to it
     ∷ says (wideTableRecord 3 ++ wideCellRecord 6 1 (plain 4294967295)) "refused 4 at 6\n"
     ∷ says (wideTableRecord 3 ++ wideCellRecord 6 65535 (flagged 0)) "refused 4 at 6\n"
@@ -655,6 +659,53 @@ conversions =
     ∷ convertedText [] (text "refused 10 at 0\n") ∷ inWide (convertedText (wideRowFile (plain 65535)) (text "refused 13 at 3\n"))
     ∷ []
 
+-- Document 02, "A6": one operation at one entry, by which it finishes and leaves the room as it was; an update whose swap an add comes before
+abbrev atOnce : List ℕ → ℕ → ℕ → Case
+atOnce cells op answered = leaves (job cells (op ∷ []) (0 ∷ [])) (left cells (answered ∷ []) (0 ∷ []) 1 0 0)
+
+abbrev atOnceWide : Total → ℕ → ℕ → Case
+atOnceWide t op answered = inWide (atOnce (roomWith t) op answered)
+
+abbrev overtaken : List ℕ
+overtaken = 0 ∷ 1 ∷ 1 ∷ 0 ∷ 0 ∷ []
+
+unfoldable pub retained : List Case
+retained =
+    -- "An update that reads a pinned total of its room finishes at that read as held (code 9) with that total, and nothing is written.": whatever the
+    -- amount is
+    atOnce (roomAt 65535) (operation 3 1 50) (answer 9 65535)
+    ∷ atOnce (roomAt 65535) (operation 3 1 0) (answer 9 65535)
+    ∷ atOnce (roomAt 65535) (operation 3 1 65535) (answer 9 65535)
+    -- a true total is typed over as before, by a pinned amount too, and that one then stays
+    ∷ onRoom (roomAt 65534) (operation 3 1 50) 50 (answer 4 65534)
+    ∷ leaves (job (roomAt 40) (operation 3 1 65535 ∷ operation 3 1 50 ∷ []) (0 ∷ 0 ∷ 1 ∷ []))
+    (left (roomAt 65535) (answer 4 40 ∷ answer 9 65535 ∷ []) (0 ∷ 1 ∷ []) 2 0 0)
+    -- the read decides: the update holds a true word, which an add pins meanwhile, loses its swap and reads again; or is before the add
+    ∷ leaves (job (roomAt 40) (operation 3 1 50 ∷ operation 4 1 65500 ∷ []) overtaken)
+    (left (roomAt 65535) (answer 9 65535 ∷ answer 8 40 ∷ []) (1 ∷ 0 ∷ []) 2 1 0)
+    ∷ leaves (job (roomAt 40) (operation 3 1 50 ∷ operation 4 1 65500 ∷ []) (0 ∷ 1 ∷ 0 ∷ 1 ∷ 1 ∷ 1 ∷ []))
+    (left (roomAt 65535) (answer 4 40 ∷ answer 8 50 ∷ []) (0 ∷ 1 ∷ []) 2 1 0)
+    -- the other kinds are as they were: an insert, a find and a remove of a pinned room
+    ∷ atOnce (roomAt 65535) (operation 2 1 50) (answer 3 65535) ∷ atOnce (roomAt 65535) (operation 1 1 0) (answer 1 65535)
+    ∷ leaves (job (roomAt 65535) (operation 5 1 0 ∷ []) (0 ∷ 0 ∷ [])) (left (table 8 (at 4 65535 0 ∷ [])) (answer 5 65535 ∷ []) (0 ∷ []) 1 0 0)
+    -- "in both widths": by the flag and not by the number, whether the ceiling is reached or not
+    ∷ atOnceWide (flagged 3) (wideOperation 3 1 (plain 50)) (wideAnswer 9 (flagged 3))
+    ∷ atOnceWide (flagged 0) (wideOperation 3 1 (flagged 0)) (wideAnswer 9 (flagged 0))
+    ∷ atOnceWide (flagged 65535) (wideOperation 3 1 (plain 50)) (wideAnswer 9 (flagged 65535))
+    ∷ atOnceWide (flagged 4294967295) (wideOperation 3 1 (plain 50)) (wideAnswer 9 (flagged 4294967295))
+    ∷ onWide (roomWith (plain 65535)) (wideOperation 3 1 (plain 50)) (plain 50) (wideAnswer 4 (plain 65535))
+    ∷ onWide (roomWith (plain 4294967294)) (wideOperation 3 1 (flagged 3)) (flagged 3) (wideAnswer 4 (plain 4294967294))
+    ∷ inWide
+    (leaves (job (roomWith (plain 7)) (wideOperation 3 1 (plain 50) ∷ wideOperation 4 1 (flagged 0) ∷ []) overtaken)
+    (left (roomWith (flagged 7)) (wideAnswer 9 (flagged 7) ∷ wideAnswer 8 (plain 7) ∷ []) (1 ∷ 0 ∷ []) 2 1 0))
+    ∷ atOnceWide (flagged 3) (wideOperation 2 1 (plain 50)) (wideAnswer 3 (flagged 3))
+    -- `held pinned`, which `everyText` has too, and `held atleast N`
+    ∷ says (tableRecord 3 ++ cellRecord 4 1 65535 ++ operationRecord 3 1 50 ++ scheduleRecord (0 ∷ 0 ∷ []))
+    "rows 1 done 1 lost 0 idle 1\nrow 0 update 1 50 held pinned\nlog 0\ncell 4 1 pinned\n"
+    ∷ says (wideTableRecord 3 ++ wideCellRecord 4 1 (flagged 3) ++ wideOperationRecord 3 1 (plain 50) ++ scheduleRecord (0 ∷ 0 ∷ []))
+    "rows 1 done 1 lost 0 idle 1\nrow 0 update 1 50 held atleast 3\nlog 0\ncell 4 1 atleast 3\n"
+    ∷ []
+
 -- FURTHER CASES, which the document does not work out. Each stands at an edge of one of its sentences, so that a definition that says
 -- another thing there has a row against it, whatever the code does. Five lists: numbers, calls of the run, files, texts and whole runs.
 
@@ -765,8 +816,7 @@ furtherFiles =
     -- 3: "a lent slice too short", before any record
     ∷ judgedIn 4095 64 16384 (tableRecord 3) 3 0 ∷ judgedIn 4096 63 16384 (tableRecord 3) 3 0 ∷ judgedIn 4096 64 16383 (tableRecord 3) 3 0
     ∷ judgedIn 4096 64 16384 (tableRecord 3) 0 0 ∷ judgedIn 4096 64 16383 [] 3 0 ∷ unread (tableRecord 3) 9 2 1 3 0
-    -- 12: "file over 65,535 bytes", before any record
-    ∷ judged (replicate 65536 0) 12 0 ∷ judged (replicate 65535 0) 9 0
+    -- 12: "file over 65,535 bytes" stands among the conversions, which judge a file as its reader does; it is dear to compute
     -- 10: "empty file, or fewer than two bytes of a mark", at "its offset"
     ∷ says [] "refused 10 at 0\n" ∷ says (text "T") "refused 10 at 0\n" ∷ says (text "X") "refused 10 at 0\n"
     ∷ says (tableRecord 3 ++ text "C") "refused 10 at 3\n"
@@ -800,9 +850,9 @@ furtherFiles =
     ∷ says (tableRecord 3 ++ find1Record ++ scheduleRecord []) "refused 11 at 10\n"
     ∷ says (tableRecord 3 ++ find1Record ++ scheduleRecord (replicate 255 0))
     "rows 1 done 1 lost 0 idle 254\nrow 0 find 1 0 absent 0\nlog 0\n"
-    -- 2: "the 65th row, or more than 16,384 entries". Entries are counted here at one record: a file of 65 SC records is dear to compute.
-    ∷ judged (tableRecord 3 ++ rounds 65 find1Record) 2 451
-    ∷ judged (tableRecord 3 ++ rounds 64 find1Record) 0 0
+    -- 2: "the 65th row, or more than 16,384 entries". Both are counted here at one record: files of 65 are dear to compute, and those of 65 rows
+    -- stand among the conversions.
+    ∷ afterRows 64 find1Record 2 ∷ afterRows 63 find1Record 0
     ∷ counted 0 255 0 255 ∷ counted 16320 64 0 16384 ∷ counted 16320 65 2 16385 ∷ counted 16384 1 2 16385
     -- "It leaves checks 4 to 8 to the run.": their places are cells, rows and entries
     ∷ says (tableRecord 3 ++ cellRecord 6 65535 1) "refused 4 at 6\n"
@@ -813,39 +863,41 @@ furtherFiles =
     ∷ says (tableRecord 3 ++ cellRecord 8 1 1 ++ text "XX") "refused 11 at 3\n"
     ∷ []
 
--- Every kind and every answer in one run: the kinds on their own keys, then on missing ones; the last two rows have too few entries or none.
+-- Every kind and every answer in one run: the kinds on their own keys, update on a true total and on a pinned one; then on missing ones; the last
+-- two rows have too few entries or none.
 unfoldable pub everyFile : List ℕ
 everyFile =
     tableRecord 3
     ++ cellRecord 0 5 65534 ++ cellRecord 1 2 20 ++ cellRecord 2 7 65535 ++ cellRecord 3 4 40 ++ cellRecord 4 1 10 ++ cellRecord 5 6 60
     ++ cellRecord 6 3 30
-    ++ operationRecord 1 5 0 ++ operationRecord 2 8 65535 ++ operationRecord 2 2 7 ++ operationRecord 3 7 65534 ++ operationRecord 4 4 65534
-    ++ operationRecord 5 1 0 ++ operationRecord 1 9 0 ++ operationRecord 4 9 1 ++ operationRecord 3 10 65535 ++ operationRecord 5 17 0
-    ++ operationRecord 2 65534 0
-    ++ scheduleRecord (0 ∷ 1 ∷ 1 ∷ 2 ∷ 3 ∷ 3 ∷ 4 ∷ 4 ∷ 5 ∷ 5 ∷ [])
-    ++ scheduleRecord (replicate 8 8) ++ scheduleRecord (replicate 8 7) ++ scheduleRecord (replicate 8 6) ++ scheduleRecord (replicate 7 9)
+    ++ operationRecord 1 5 0 ++ operationRecord 2 8 65535 ++ operationRecord 2 2 7 ++ operationRecord 3 6 65534 ++ operationRecord 3 7 65534
+    ++ operationRecord 4 4 65534 ++ operationRecord 5 1 0 ++ operationRecord 1 9 0 ++ operationRecord 4 9 1 ++ operationRecord 3 10 65535
+    ++ operationRecord 5 17 0 ++ operationRecord 2 65534 0
+    ++ scheduleRecord (0 ∷ 1 ∷ 1 ∷ 2 ∷ 3 ∷ 3 ∷ 4 ∷ 5 ∷ 5 ∷ 6 ∷ 6 ∷ [])
+    ++ scheduleRecord (replicate 8 9) ++ scheduleRecord (replicate 8 8) ++ scheduleRecord (replicate 8 7) ++ scheduleRecord (replicate 7 10)
 
 unfoldable pub everyText : List ℕ
 everyText =
-    text "rows 11 done 9 lost 0 idle 0\n"
+    text "rows 12 done 10 lost 0 idle 0\n"
     ++ text "row 0 find 5 0 found 65534\n"
     ++ text "row 1 insert 8 pinned inserted 0\n"
     ++ text "row 2 insert 2 7 present 20\n"
-    ++ text "row 3 update 7 65534 changed pinned\n"
-    ++ text "row 4 add 4 65534 capped 40\n"
-    ++ text "row 5 remove 1 0 removed 10\n"
-    ++ text "row 6 find 9 0 absent 0\n"
-    ++ text "row 7 add 9 1 full 0\n"
-    ++ text "row 8 update 10 pinned absent 0\n"
-    ++ text "row 9 remove 17 0 unfinished 0\n"
-    ++ text "row 10 insert 65534 0 unfinished 0\n"
-    ++ text "log 0 1 2 3 4 5 8 7 6\n"
+    ++ text "row 3 update 6 65534 changed 60\n"
+    ++ text "row 4 update 7 65534 held pinned\n"
+    ++ text "row 5 add 4 65534 capped 40\n"
+    ++ text "row 6 remove 1 0 removed 10\n"
+    ++ text "row 7 find 9 0 absent 0\n"
+    ++ text "row 8 add 9 1 full 0\n"
+    ++ text "row 9 update 10 pinned absent 0\n"
+    ++ text "row 10 remove 17 0 unfinished 0\n"
+    ++ text "row 11 insert 65534 0 unfinished 0\n"
+    ++ text "log 0 1 2 3 4 5 6 9 8 7\n"
     ++ text "cell 0 5 65534\n"
     ++ text "cell 1 2 20\n"
-    ++ text "cell 2 7 65534\n"
+    ++ text "cell 2 7 pinned\n"
     ++ text "cell 3 4 pinned\n"
     ++ text "cell 4 gone\n"
-    ++ text "cell 5 6 60\n"
+    ++ text "cell 5 6 65534\n"
     ++ text "cell 6 3 30\n"
     ++ text "cell 7 8 pinned\n"
 
@@ -908,7 +960,8 @@ furtherRuns =
     ∷ []
 
 unfoldable pub cases : List Case
-cases = starred ++ capped ++ smallTables ++ wideTables ++ conversions ++ furtherNumbers ++ furtherCalls ++ furtherFiles ++ furtherTexts ++ furtherRuns
+cases =
+    starred ++ capped ++ smallTables ++ wideTables ++ conversions ++ retained ++ furtherNumbers ++ furtherCalls ++ furtherFiles ++ furtherTexts ++ furtherRuns
 
 -- all that demand 3 asks of a run
 pub record Meets (wide : Bool) (j : Contents) : Type 0 where

@@ -35,9 +35,10 @@ pub record Operation (T : Type 0) : Type 0 where
   pub amount : T
 
 -- "Codes: 0 unfinished, 1 found, 2 inserted, 3 present, 4 changed, 5 removed, 6 absent, 7 full. Codes 0, 2, 6 and 7 carry total 0." "capped (code
--- 8) with the old total" (document 02, "A1")
+-- 8) with the old total" (document 02, "A1"). "held (code 9) with that total" (document 02, "A6"): retained here, since to hold is what an
+-- operation does with a word before its swap
 pub data Answer (T : Type 0) : Type 0 where
-  found present changed removed capped : T → Answer T
+  found present changed removed capped retained : T → Answer T
   inserted absent full : Answer T
 
 unfoldable pub codeOf : {T : Type 0} → Answer T → ℕ
@@ -49,6 +50,7 @@ codeOf (removed t) = 5
 codeOf absent = 6
 codeOf full = 7
 codeOf (capped t) = 8
+codeOf (retained t) = 9
 
 -- the total that an answer carries, if it carries one
 unfoldable pub totalOf : {T : Type 0} → Answer T → Option T
@@ -60,6 +62,7 @@ totalOf (removed t) = some t
 totalOf absent = none
 totalOf full = none
 totalOf (capped t) = some t
+totalOf (retained t) = some t
 
 -- "A room .. is present in the starting or final cells if one of them has its key, and its total there is that cell's."
 unfoldable pub keyed : {T : Type 0} → ℕ → Cell T → Option T

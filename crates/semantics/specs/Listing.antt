@@ -19,8 +19,8 @@ kindWords = [] ∷ text "find" ∷ text "insert" ∷ text "update" ∷ text "add
 unfoldable pub kindWord : ℕ → List ℕ
 kindWord n = getD kindWords n []
 
--- "Codes: 0 unfinished, 1 found, 2 inserted, 3 present, 4 changed, 5 removed, 6 absent, 7 full." "capped (code 8)" (document 02, "A1"). No
--- other code has a word.
+-- "Codes: 0 unfinished, 1 found, 2 inserted, 3 present, 4 changed, 5 removed, 6 absent, 7 full." "capped (code 8)" (document 02, "A1"). "held (code
+-- 9)" (document 02, "A6"). No other code has a word.
 abbrev pub codeWords : List (List ℕ)
 codeWords =
     text "unfinished"
@@ -32,6 +32,7 @@ codeWords =
     ∷ text "absent"
     ∷ text "full"
     ∷ text "capped"
+    ∷ text "held"
     ∷ []
 
 unfoldable pub codeWord : ℕ → List ℕ

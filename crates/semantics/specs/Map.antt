@@ -1,6 +1,6 @@
 -- Must be believed: what `run` promises rests on it.
--- Document 01, "The one-at-a-time map", with document 02, "A1": a second statement of what is right. Its arms are its own: none of Step.antt's
--- rules is used here.
+-- Document 01, "The one-at-a-time map", with document 02, "A1" and "A6": a second statement of what is right. Its arms are its own: none of
+-- Step.antt's rules is used here.
 -- Demand 2, that any run is one of this map, is `Linearizable` of Demands.antt.
 -- Assumes nothing.
 use Prim.Native.Nat.{ℕ, suc}
@@ -10,7 +10,7 @@ use mathlib.Core.Option.{Option, none, some}
 use lib.Dec.{eqb}
 use lib.ListN.{getElem?}
 use Rattle.semantics.specs.Cells.{Setting, Cell, Kind, find, insert, update, add, remove, Operation, lookup, usedCells}
-use Rattle.semantics.specs.Cells.{Answer, found, present, changed, removed, inserted, absent, full, capped}
+use Rattle.semantics.specs.Cells.{Answer, found, present, changed, removed, inserted, absent, full, capped, retained}
 
 -- "It holds pairs and a number of used cells": each key's total, or none
 pub record Map (T : Type 0) : Type 0 where
@@ -43,6 +43,11 @@ added t false true = capped t
 added t false false = changed t
 added t true now = changed t
 
+-- "The map changes likewise, in both widths." (A6): an update of a key with total t, by whether t is saturated
+unfoldable pub updated : {T : Type 0} → ℕ → T → Map T → T → Bool → Done T
+updated k amount m t true = unchanged m (retained t)
+updated k amount m t false = replaced k (some amount) m (changed t)
+
 -- "at first the live pairs and the cells not empty"
 unfoldable pub mapOf : {T : Type 0} → List (Cell T) → Map T
 mapOf cells = record { pairs = λ k. lookup k cells; used = usedCells cells }
@@ -65,8 +70,8 @@ module _ (S : Setting) where
   -- "All other cases are as in the step rules."
   perform find k amount m (some t) = unchanged m (found t)
   perform insert k amount m (some t) = unchanged m (present t)
-  -- "Update of a present key replaces its total."
-  perform update k amount m (some t) = replaced k (some amount) m (changed t)
+  -- "Update of a present key replaces its total.", but a pinned one
+  perform update k amount m (some t) = updated k amount m t (S .saturated t)
   perform add k amount m (some t) = let sum = S .plus t amount in replaced k (some sum) m (added t (S .saturated t) (S .saturated sum))
   -- "Remove deletes the pair and leaves used."
   perform remove k amount m (some t) = replaced k none m (removed t)

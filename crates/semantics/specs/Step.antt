@@ -1,6 +1,6 @@
 -- Must be believed: what `run` and `report` promise rests on it.
 -- Document 01, "What one step does": one atomic step on the one cell that it reads, an entry of the schedule, and the run; with document 02, "A1",
--- an add that is capped.
+-- an add that is capped, and "A6", an update of a pinned total.
 -- StepRules.antt has the document's own lines beside these definitions.
 -- Assumes nothing.
 use Prim.Native.Nat.{ℕ, suc, _+_, _%_}
@@ -12,7 +12,7 @@ use lib.ListN.{getD, set, getElem?}
 use Rattle.semantics.specs.Basics.{isSome, countOf}
 use Rattle.semantics.specs.Totals.{caps}
 use Rattle.semantics.specs.Cells.{Setting, Cell, empty, tombstone, live, Kind, find, insert, update, add, remove, Operation}
-use Rattle.semantics.specs.Cells.{Answer, found, present, changed, removed, inserted, absent, full, capped}
+use Rattle.semantics.specs.Cells.{Answer, found, present, changed, removed, inserted, absent, full, capped, retained}
 
 -- The word that an operation holds: the empty word, or its own key with a total.
 pub data Held (T : Type 0) : Type 0 where
@@ -72,13 +72,19 @@ makes update = false
 makes add = true
 makes remove = false
 
+-- "An update that reads a pinned total of its room finishes at that read as held (code 9) with that total, and nothing is written." (document 02,
+-- "A6"): what an update does where its key has total t, by whether t is saturated
+unfoldable pub updating : {T : Type 0} → T → T → Bool → Effect T
+updating t amount true = record { fate = stays; answer = retained t }
+updating t amount false = record { fate = becomes amount; answer = changed t }
+
 module _ (S : Setting) where
   -- What find, insert, update, add and remove do where their key has total t, and what they answer. "An add that turns a true total into a
   -- pinned one now finishes capped (code 8) with the old total, where it finished changed."
   unfoldable pub effect : Kind → S .Total → S .Total → Effect (S .Total)
   effect find t amount = record { fate = stays; answer = found t }
   effect insert t amount = record { fate = stays; answer = present t }
-  effect update t amount = record { fate = becomes amount; answer = changed t }
+  effect update t amount = updating t amount (S .saturated t)
   effect add t amount =
       let sum = S .plus t amount in
       record { fate = becomes sum; answer = cond (caps (S .saturated t) (S .saturated sum)) (capped t) (changed t) }
@@ -134,7 +140,8 @@ module _ (S : Setting) where
   newCell o vacant = live (o .key) (o .amount)
   newCell o (mine t) = fateCell (o .key) t (effect (o .kind) t (o .amount) .fate)
 
-  -- "Update and add finish changed with the old total, remove finishes removed with it." An add may be capped in place of changed.
+  -- "Update and add finish changed with the old total, remove finishes removed with it." An add may be capped in place of changed; an update that is
+  -- retained has finished at its read, and holds no word.
   unfoldable pub swapAnswer : Operation (S .Total) → Held (S .Total) → Answer (S .Total)
   swapAnswer o vacant = inserted
   swapAnswer o (mine t) = effect (o .kind) t (o .amount) .answer

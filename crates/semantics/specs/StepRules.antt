@@ -1,7 +1,7 @@
 -- An aid, not to be believed: each line is proved, by `refl`, of the definitions of Step.antt.
 -- Document 01, "What one step does", line by line: its read rules and new words, as the definitions of Step.antt compute them; and document 02
--- where a request has moved one. Each line holds by `refl`, so a reader can hold the documents beside this page and need not unfold the
--- definitions.
+-- where a request has moved one. Each line holds by `refl`, those of update once it is told whether the total is pinned, so a reader can hold the
+-- documents beside this page and need not unfold the definitions.
 -- Assumes nothing.
 use mathlib.Core.Path.{_≡_, refl}
 use Prim.Native.Nat.{ℕ, suc}
@@ -9,9 +9,9 @@ use mathlib.Core.Bool.{true, false, cond, not, _&&_}
 use lib.Dec.{eqb}
 use Rattle.semantics.specs.Totals.{caps}
 use Rattle.semantics.specs.Cells.{Setting, Cell, empty, tombstone, live, Kind, find, insert, update, add, remove, Operation}
-use Rattle.semantics.specs.Cells.{found, present, changed, removed, inserted, absent, full, capped}
+use Rattle.semantics.specs.Cells.{found, present, changed, removed, inserted, absent, full, capped, retained}
 use Rattle.semantics.specs.Step.{own, free, other, sight, Held, vacant, mine, passes, loses, holds, finishes, pending, reading, holding, fresh, after}
-use Rattle.semantics.specs.Step.{makes, effect, readOwn, read, exhausted, bounded, sameCell, heldCell, fateCell, newCell, swapAnswer, swapped, step}
+use Rattle.semantics.specs.Step.{makes, updating, effect, readOwn, read, exhausted, bounded, sameCell, heldCell, fateCell, newCell, swapAnswer, swapped, step}
 
 -- an operation of key k with an amount, at a cell x; t is the total of its key
 module _ (S : Setting) (k : ℕ) (amount t : S .Total) (x : Cell (S .Total)) where
@@ -23,16 +23,18 @@ module _ (S : Setting) (k : ℕ) (amount t : S .Total) (x : Cell (S .Total)) whe
   unfolding fresh
   begins = refl
 
-  -- "1. The row's key: find finishes found with the total; insert finishes present with the total; update, add and remove hold the word."
+  -- "1. The row's key: find finishes found with the total; insert finishes present with the total; update, add and remove hold the word." "An update
+  -- that reads a pinned total of its room finishes at that read as held (code 9) with that total" (document 02, "A6")
   the-key : ((j : ℕ) → sight k (live j t) ≡ cond (eqb k j) (own t) other)
       × (read S (row find) (own t) ≡ finishes (found t))
       × (read S (row insert) (own t) ≡ finishes (present t))
-      × (read S (row update) (own t) ≡ holds (mine t))
+      × (S .saturated t ≡ false → read S (row update) (own t) ≡ holds (mine t))
+      × (S .saturated t ≡ true → read S (row update) (own t) ≡ finishes (retained t))
       × (read S (row add) (own t) ≡ holds (mine t))
       × (read S (row remove) (own t) ≡ holds (mine t))
       × (heldCell S k (mine t) ≡ live k t)
-  unfolding sight read readOwn effect heldCell
-  the-key = (λ j. refl, refl, refl, refl, refl, refl, refl)
+  unfolding sight read readOwn updating effect heldCell
+  the-key = (λ j. refl, refl, refl, λ e. rw e, λ e. rw e, refl, refl, refl)
 
   -- "2. Empty: find, update and remove finish absent; insert and add hold the empty word."
   an-empty-cell : (sight {T = S .Total} k empty ≡ free)
@@ -77,11 +79,11 @@ module _ (S : Setting) (k : ℕ) (amount t : S .Total) (x : Cell (S .Total)) whe
   new-words : (newCell S (row insert) vacant ≡ live k amount)
       × (newCell S (row add) vacant ≡ live k amount)
       × ((kind : Kind) → swapAnswer S (row kind) vacant ≡ inserted)
-      × (newCell S (row update) (mine t) ≡ live k amount)
+      × (S .saturated t ≡ false → newCell S (row update) (mine t) ≡ live k amount)
       × (newCell S (row add) (mine t) ≡ live k (S .plus t amount))
       × (newCell S (row remove) (mine t) ≡ tombstone)
-      × (swapAnswer S (row update) (mine t) ≡ changed t)
+      × (S .saturated t ≡ false → swapAnswer S (row update) (mine t) ≡ changed t)
       × (swapAnswer S (row add) (mine t) ≡ cond (not (S .saturated t) && S .saturated (S .plus t amount)) (capped t) (changed t))
       × (swapAnswer S (row remove) (mine t) ≡ removed t)
-  unfolding newCell swapAnswer fateCell effect caps
-  new-words = (refl, refl, λ kind. refl, refl, refl, refl, refl, refl, refl)
+  unfolding newCell swapAnswer fateCell updating effect caps
+  new-words = (refl, refl, λ kind. refl, λ e. rw e, refl, refl, λ e. rw (e, swapAnswer), refl, refl)

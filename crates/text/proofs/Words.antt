@@ -85,7 +85,7 @@ pub kind-letters : (n : ℕ) → untilBlank (drop (n * 11) (text "           fin
 unfolding text kindWord row allOf
 kind-letters n = word-at kindWords tt n
 
-pub code-letters : (n : ℕ) → untilBlank (drop (n * 11) (text "unfinished found      inserted   present    changed    removed    absent     full       capped     ")) ≡ codeWord n
+pub code-letters : (n : ℕ) → untilBlank (drop (n * 11) (text "unfinished found      inserted   present    changed    removed    absent     full       capped     held       ")) ≡ codeWord n
 unfolding text codeWord row allOf
 code-letters n = word-at codeWords tt n
 

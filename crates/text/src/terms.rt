@@ -43,7 +43,7 @@ pub fn put_code(out: &mut [u8], at: usize, code: u64) -> usize
     ensures { λ r. ⌜ written (record { at = at; out = now (out .entry) }) (text " " ++ codeWord code) ≡ record { at = r; out = now (out .exit) } ⌝ }
 {
     let words =
-        b"unfinished found      inserted   present    changed    removed    absent     full       capped     ";
+        b"unfinished found      inserted   present    changed    removed    absent     full       capped     held       ";
     if code < 4294967296 {
         return put_word(out, at, words, code as usize * 11);
     }
