@@ -112,7 +112,7 @@ impl Width for u32 {
     const FLAG: u64 = 0;
     const TOTALS: &'static [u64] = &[0, 1, 2, 255, 256, 32_768, 65_534, 65_535];
     const PARTS: &'static [u64] = &[0xFFFF, 0xFFFF_FFFF, 0xFFFF_0000];
-    const SMALL_RUNS: &'static [(u64, [u64; 2])] = &[(65_534, [1, 1])];
+    const SMALL_RUNS: &'static [(u64, [u64; 2])] = &[(65_534, [1, 1]), (65_535, [3, 65_535])];
     const SMALL_FILE: &'static [u8] =
         b"TB\x03CL\x00\x04\x00\x01\x00\x28OP\x01\x00\x01\x00\x00SC\x02\x00\x00";
     const LONGEST: &'static str = "pinned";

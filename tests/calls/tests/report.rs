@@ -49,8 +49,9 @@ fn reports<W: Width>() {
 }
 
 /// A text as long as any, but for the number of lost swaps: every cell has a
-/// room of five digits with the longest total, the operations change the first
-/// 64 of them by such a total, and the rest of the schedule is idle.
+/// room of five digits with the longest total, the operations insert the first
+/// 64 of them with such a total, which are present, and the rest of the schedule
+/// is idle.
 fn a_text_of_all_cells_and_operations<W: Width>() {
     let mut rooms = vec![0; 4_096];
     for key in 10_000..=65_534 {
@@ -63,16 +64,16 @@ fn a_text_of_all_cells_and_operations<W: Width>() {
         file.extend([b"CL".as_slice(), &cell, &room, &total].concat());
     }
     for room in &rooms[..64] {
-        file.extend([b"OP\x03".as_slice(), &room.to_be_bytes(), &total].concat());
+        file.extend([b"OP\x02".as_slice(), &room.to_be_bytes(), &total].concat());
     }
     let schedule: Vec<u8> = (0..16_384_u16).map(|entry| entry as u8 % 64).collect();
     for entries in schedule.chunks(255) {
         file.extend([b"SC".as_slice(), &[entries.len() as u8], entries].concat());
     }
-    let mut text = "rows 64 done 64 lost 0 idle 16256\n".to_string();
+    let mut text = "rows 64 done 64 lost 0 idle 16320\n".to_string();
     let longest = W::LONGEST;
     for (row, room) in rooms[..64].iter().enumerate() {
-        text += &format!("row {row} update {room} {longest} changed {longest}\n");
+        text += &format!("row {row} insert {room} {longest} present {longest}\n");
     }
     text += "log";
     (0..64).for_each(|row| text += &format!(" {row}"));

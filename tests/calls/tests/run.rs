@@ -1,7 +1,7 @@
 //! Calls of the run: lengths and words that no run file has, every total with
-//! adds around the ceiling, every small run on one cell and on two, and every
-//! beginning of a schedule. Every call is made of the proved run and of the
-//! second model, and all that they leave compared.
+//! adds around the ceiling and with updates, every small run on one cell and on
+//! two, and every beginning of a schedule. Every call is made of the proved run
+//! and of the second model, and all that they leave compared.
 //!
 //! A test that serves both widths is written once, over the word, and stands in
 //! the list at the end.
@@ -140,6 +140,11 @@ fn capped<W: Width>(total: u64) -> W {
     W::answered(8, total)
 }
 
+/// "Finishes at that read as held (code 9) with that total."
+fn retained<W: Width>(total: u64) -> W {
+    W::answered(9, total)
+}
+
 /// One add to room 1, which has this total: that it has this answer, and that
 /// the room has this total then.
 fn adds_up<W: Width>(total: u64, amount: u64, answer: W, sum: u64) {
@@ -245,14 +250,89 @@ fn an_add_that_inserts_a_pinned_amount<W: Width>() {
     }
 }
 
+/// One update of room 1, which has this total: if that is true, the update has
+/// replaced it at its second entry, and if it is pinned, has finished at its
+/// first and written nothing.
+fn types_over<W: Width>(total: u64, amount: u64, is_pinned: bool) {
+    let mut call = accepted::<W>();
+    call.cells[4] = W::cell(1, total);
+    call.operations = vec![W::operation(UPDATE, 1, amount)];
+    let ended = |entries| {
+        let mut call = call.clone();
+        call.schedule = vec![0; entries];
+        let (outcome, left) = made_and_left(&call);
+        let counts = (outcome.done, outcome.lost, outcome.idle);
+        (counts, left.answers[0], left.cells[4])
+    };
+    let stays = W::cell(1, total);
+    let [first, second] = match is_pinned {
+        true => [1, 2].map(|entries| ((1, 0, entries - 1), retained(total), stays)),
+        false => [
+            ((0, 0, 0), W::answered(0, 0), stays),
+            ((1, 0, 0), changed(total), W::cell(1, amount)),
+        ],
+    };
+    assert_eq!(ended(1), first, "{total} and {amount}");
+    assert_eq!(ended(2), second, "{total} and {amount}");
+}
+
+/// "A pinned total may not be typed over", whatever the amount, and any other
+/// may, by a pinned amount too.
+fn an_update_of_every_total<W: Width>() {
+    let ceiling = W::CEILING;
+    let amounts = [0, 7, ceiling - 1, W::pinned(ceiling)];
+    for (totals, is_pinned) in [(W::true_totals(), false), (W::pinned_totals(), true)] {
+        for total in totals {
+            for amount in amounts {
+                types_over::<W>(total, amount, is_pinned);
+            }
+        }
+    }
+    // All amounts with the totals next to each other at the ceiling.
+    for amount in [W::true_totals(), W::pinned_totals()].concat() {
+        types_over::<W>(ceiling - 1, amount, false);
+        types_over::<W>(W::pinned(ceiling), amount, true);
+    }
+}
+
+/// The flag alone says it: a total, and whether it is pinned.
+#[test]
+fn wide_updates() {
+    for (total, is_pinned) in [
+        (0, false),
+        (PIN, true),
+        (3, false),
+        (PIN + 3, true),
+        (65_534, false),
+        (PIN + 65_534, true),
+        (65_535, false),
+        (PIN + 65_535, true),
+        (65_536, false),
+        (PIN + 65_536, true),
+        (2_147_483_648, false),
+        (PIN + 2_147_483_648, true),
+        (4_294_967_294, false),
+        (PIN + 4_294_967_294, true),
+        (HELD, true),
+    ] {
+        for amount in [0, 3, 65_535, 4_294_967_294, PIN, PIN + 3, HELD, total] {
+            types_over::<u64>(total, amount, is_pinned);
+        }
+    }
+}
+
 /// What the other kinds answer of a total, and leave of it.
 fn every_kind_on_every_total<W: Width>() {
     for &total in W::TOTALS {
         for &amount in W::TOTALS {
+            let (code, put) = match W::is_pinned(total) {
+                true => (9, total),
+                false => (4, amount),
+            };
             for (kind, amount, code, word) in [
                 (FIND, 0, 1, W::cell(1, total)),
                 (INSERT, amount, 3, W::cell(1, total)),
-                (UPDATE, amount, 4, W::cell(1, amount)),
+                (UPDATE, amount, code, W::cell(1, put)),
                 (REMOVE, 0, 5, W::cell(65_535, 0)),
             ] {
                 let mut call = accepted::<W>();
@@ -298,6 +378,84 @@ fn flagged_adds_that_lost_a_swap() {
     race::<u64>(PIN + 3, 5, [capped(40), changed(PIN + 43)]);
     race::<u64>(PIN + 3, PIN + 5, [capped(40), changed(PIN + 43)]);
     race::<u64>(PIN, 4_294_967_255, [capped(40), changed(PIN + 40)]);
+}
+
+/// An operation and an update by 7 hold room 1 with 40, and the operation swaps
+/// first: that the update, which loses its swap, is unfinished until its next
+/// read, and has this answer then.
+fn race_an_update<W: Width>(kind: u64, amount: u64, answers: [W; 2], total: u64) {
+    let mut call = accepted::<W>();
+    call.operations = vec![W::operation(kind, 1, amount), W::operation(UPDATE, 1, 7)];
+    call.schedule = vec![0, 1, 0, 1];
+    let (outcome, left) = made_and_left(&call);
+    assert_eq!((outcome.done, outcome.lost, outcome.idle), (1, 1, 0));
+    assert_eq!(left.answers[..2], [answers[0], W::answered(0, 0)]);
+    let stays = W::is_pinned(total);
+    // One entry more than the update needs.
+    call.schedule.extend(vec![1; if stays { 2 } else { 3 }]);
+    let (outcome, left) = made_and_left(&call);
+    assert_eq!((outcome.done, outcome.lost, outcome.idle), (2, 1, 1));
+    assert_eq!(left.answers[..2], answers, "{kind} and {amount}");
+    assert_eq!(left.log[..2], [0, 1]);
+    let put = if stays { total } else { 7 };
+    assert_eq!(left.cells[4], W::cell(1, put), "{kind} and {amount}");
+}
+
+/// The read decides, and of an update that lost its swap the last one.
+fn updates_around_the_ceiling_that_lost_a_swap<W: Width>() {
+    let ceiling = W::CEILING;
+    let most = W::pinned(ceiling);
+    for amount in [ceiling - 40, ceiling - 39, ceiling - 1, most] {
+        race_an_update::<W>(ADD, amount, [capped(40), retained(most)], most);
+    }
+    race_an_update::<W>(UPDATE, most, [changed(40), retained(most)], most);
+    let below = ceiling - 1;
+    race_an_update::<W>(ADD, ceiling - 41, [changed(40), changed(below)], below);
+    race_an_update::<W>(UPDATE, below, [changed(40), changed(below)], below);
+}
+
+/// Flagged meanwhile, far below the ceiling and with the number unchanged.
+#[test]
+fn flagged_updates_that_lost_a_swap() {
+    for number in [0, 3, 65_495] {
+        let total = PIN + 40 + number;
+        race_an_update::<u64>(ADD, PIN + number, [capped(40), retained(total)], total);
+        race_an_update::<u64>(UPDATE, total, [changed(40), retained(total)], total);
+    }
+    // 65,535 without a flag.
+    race_an_update::<u64>(ADD, 65_495, [changed(40), changed(65_535)], 65_535);
+}
+
+/// An update loses to an add, holds the sum, loses to one that pins it, and is
+/// then held; what comes behind it meets the same total.
+fn an_update_that_lost_twice_and_what_comes_behind_it<W: Width>() {
+    let most = W::pinned(W::CEILING);
+    let mut call = accepted::<W>();
+    call.operations = vec![
+        W::operation(UPDATE, 1, 7),
+        W::operation(ADD, 1, 5),
+        W::operation(ADD, 1, most),
+        W::operation(UPDATE, 1, 0),
+        W::operation(INSERT, 1, 9),
+        W::operation(ADD, 1, 0),
+        W::operation(REMOVE, 1, 0),
+    ];
+    call.schedule = vec![0, 1, 1, 0, 0, 2, 2, 0, 0, 3, 4, 5, 5, 6, 6];
+    call.answers = vec![W::word(STOOD); 7];
+    let (outcome, left) = made_and_left(&call);
+    assert_eq!((outcome.done, outcome.lost, outcome.idle), (7, 2, 0));
+    let answers = [
+        retained(most),
+        changed(40),
+        capped(45),
+        retained(most),
+        W::answered(3, most),
+        changed(most),
+        W::answered(5, most),
+    ];
+    assert_eq!(left.answers, answers);
+    assert_eq!(left.log, [1, 2, 0, 3, 4, 5, 6]);
+    assert_eq!(left.cells[4], W::cell(65_535, 0));
 }
 
 fn is_allowed(c: usize) -> bool {
@@ -706,8 +864,11 @@ calls::in_both_widths! {
     an_add_to_every_true_total,
     every_add_to_a_pinned_total,
     an_add_that_inserts_a_pinned_amount,
+    an_update_of_every_total,
     every_kind_on_every_total,
     adds_around_the_ceiling_that_lost_a_swap,
+    updates_around_the_ceiling_that_lost_a_swap,
+    an_update_that_lost_twice_and_what_comes_behind_it,
     cells_of_every_length,
     cells_in_use_of_every_small_length,
     every_run_of_two_operations_on_one_cell_and_on_two,

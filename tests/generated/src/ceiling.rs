@@ -3,10 +3,11 @@
 
 use std::cmp::Ordering;
 
-use model::{Outcome, Word};
+use model::Word;
 
 use crate::classify::Start;
 use crate::observe::Line;
+use crate::stops::{lost_totals, Stops};
 use crate::width::{Width, FLAG};
 
 /// Notes the sums around the ceiling, and for each swap that an add lost what
@@ -14,10 +15,10 @@ use crate::width::{Width, FLAG};
 pub fn adds<W: Word>(
     width: Width,
     start: &Start<W>,
+    stops: &Stops<W>,
     lines: &[Line],
     note: &mut impl FnMut(&str, &str),
 ) {
-    let stops = stops(start);
     let rows = lines.iter().enumerate();
     for (row, line) in rows.filter(|row| row.1.kind == "add") {
         if let Some(sum) = sum(width, line) {
@@ -27,7 +28,7 @@ pub fn adds<W: Word>(
         if let Some(sum) = flagged_sum(width, line) {
             note("adds with a flag", &format!("{sum} {}", line.answer));
         }
-        for held in lost_totals(&stops, &start.schedule, row, line.key) {
+        for held in lost_totals(stops, &start.schedule, row, line.key) {
             let foreseen = foreseen(width, held, line.amount);
             let item = format!("{foreseen} then {}", answered(width, line));
             note("adds retried", &item);
@@ -96,53 +97,4 @@ fn foreseen(width: Width, held: Option<u64>, amount: u64) -> &'static str {
         Some(total) if total + amount >= width.ceiling() => "capped",
         Some(_) => "changed",
     }
-}
-
-/// What stands after so many entries of the schedule: the second model's stops.
-type Stops<W> = Vec<(Outcome, Vec<W>, Vec<W>, Vec<u8>)>;
-
-/// A text does not show what a row held when it lost a swap: it is seen in the
-/// second model's stops, which are taken where there are not too many of them.
-fn stops<W: Word>(start: &Start<W>) -> Stops<W> {
-    if start.schedule.len() * start.cells.len() > 4_096 {
-        return Vec::new();
-    }
-    let count = start.operations.len();
-    model::stops(
-        &mut start.cells.clone(),
-        &start.operations,
-        &start.schedule,
-        &mut vec![W::from(0); count],
-        &mut vec![0; count],
-    )
-}
-
-/// The total that a row held of its key at each swap that it lost; nothing for
-/// an empty cell.
-fn lost_totals<W: Word>(
-    stops: &Stops<W>,
-    schedule: &[u8],
-    row: usize,
-    key: u16,
-) -> Vec<Option<u64>> {
-    let mut totals = Vec::new();
-    let mut held = None;
-    for (stop, &entry) in stops.windows(2).zip(schedule) {
-        let [(before, ..), (after, cells, answers, _)] = stop else {
-            break;
-        };
-        if usize::from(entry) != row {
-            continue;
-        }
-        if after.lost > before.lost {
-            totals.push(held);
-        }
-        if answers[row].code() != 0 {
-            break;
-        }
-        // A read alters no cell: the word that the row holds is in its cell.
-        let word = cells.iter().find(|word| word.key() == key);
-        held = word.map(|word| word.total().into());
-    }
-    totals
 }

@@ -14,20 +14,29 @@ use crate::width::{Width, WIDTHS};
 /// in a wide file. `true to CEILING capped` is an add that found a true total,
 /// made it the ceiling of its width and was answered capped, BELOW being the
 /// number next to it; `X then Y` one that would have been answered X had it not
-/// lost its swap, and then was answered Y.
+/// lost its swap, and then was answered Y. `BELOW by pinned changed` is an update
+/// that found that total, brought a pinned amount and was answered changed; what
+/// updates are `pinned meanwhile by` is the operation that pinned the total after
+/// the update had read a true one.
 #[rustfmt::skip]
 const LINES: &[(&str, &str)] = &[
     ("kinds", "find, insert, update, add, remove"),
-    ("answers", "unfinished, found, inserted, present, changed, removed, absent, full, capped"),
+    ("answers", "unfinished, found, inserted, present, changed, removed, absent, full, capped, held"),
     ("of find", "unfinished, found, absent"),
     ("of insert", "unfinished, inserted, present, full"),
-    ("of update", "unfinished, changed, absent"),
+    ("of update", "unfinished, changed, absent, held"),
     ("of add", "unfinished, inserted, changed, full, capped"),
     ("of remove", "unfinished, removed, absent"),
     ("adds around the ceiling", "true to BELOW changed, true to CEILING capped, true above capped, true by pinned capped, \
         0 by pinned capped, pinned by 0 changed, pinned by true changed, pinned by pinned changed, pinned inserted"),
     ("adds retried", "changed then capped, inserted then capped, capped then capped, capped then changed, \
         capped then changed pinned, capped then inserted"),
+    ("over a pinned total", "find found, insert present, update held, add changed, remove removed"),
+    ("updates around the ceiling", "pinned by 0 held, pinned by true held, pinned by pinned held, true by pinned changed, \
+        BELOW by pinned changed, BELOW by true changed"),
+    ("updates retried", "changed then changed, changed then absent, changed then held, changed twice then held"),
+    ("updates pinned meanwhile by", "add capped, update changed"),
+    ("behind a held update", "find found, insert present, update held, add changed, remove removed"),
     ("accepted with", "lost swaps, idle entries, unfinished, all finished, wraparound, tombstone passed, key stored again, \
         ended full, totals rule, 65535 bytes, 64 rows, 16384 entries"),
     ("refused, of", "single, pair, prefix, mutated, shuffled, noise, sized"),
@@ -78,7 +87,8 @@ const WIDE_LINES: &[(&str, &str)] = &[
     ("adds with a flag", "true by flagged below capped, true by flagged to it capped, true by flagged above capped, \
         flagged by true below changed, flagged by true to it changed, flagged by true above changed, \
         flagged by flagged below changed, flagged by flagged to it changed, flagged by flagged above changed"),
-    ("listed", "amount atleast, found atleast, present atleast, changed atleast, removed atleast, cell atleast, \
+    ("updates by the flag", "flagged 0 held, flagged below held, flagged 65535 held, flagged ceiling held, unflagged 65535 changed"),
+    ("listed", "amount atleast, found atleast, present atleast, changed atleast, removed atleast, held atleast, cell atleast, \
         amount 65535, found 65535, present 65535, changed 65535, removed 65535, capped 65535, cell 65535"),
     ("refused 11", "CL flag 2:fml, CL flag 255:fml, CL other flag:fml, OP flag 2:fml, OP flag 255:fml, OP other flag:fml"),
     ("refused 4", "flag alone:fml, total and flag:fml, unflagged ceiling:fml"),

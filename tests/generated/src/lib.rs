@@ -20,5 +20,7 @@ mod recipes;
 mod schedules;
 mod sizes;
 mod spoil;
+mod stops;
 mod tables;
+mod updates;
 pub mod width;

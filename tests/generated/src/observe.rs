@@ -9,6 +9,8 @@ use crate::classify::{classify, numbers, Start};
 use crate::coverage::{pair_title, Coverage};
 use crate::files::Case;
 use crate::pairs::Pair;
+use crate::stops::stops;
+use crate::updates;
 use crate::width::{Width, FLAG};
 
 /// Notes which refusal was written, and whether it is the first of a pair.
@@ -100,7 +102,9 @@ pub fn accepted<W: Word>(case: &Case, start: &Start<W>, text: &[u8], coverage: &
     let mut note = |title: &str, item: &str| coverage.note(case.width, title, item, ' ');
     // As it was read: damage may have made another width of it.
     let width = Width::of(&case.file);
-    ceiling::adds(width, start, &lines, &mut note);
+    let stops = stops(start);
+    ceiling::adds(width, start, &stops, &lines, &mut note);
+    updates::updates(width, start, &stops, (&lines, &log(&text)), &mut note);
     for line in &lines {
         note("kinds", line.kind);
         note("answers", line.answer);
@@ -154,6 +158,13 @@ fn listed(width: Width, total: u64) -> Option<&'static str> {
 fn cell_total(line: &str) -> Option<u64> {
     let mut words = line.strip_prefix("cell ")?.split(' ').skip(2);
     total(&mut words)
+}
+
+/// The log of a text, as rows.
+fn log(text: &str) -> Vec<usize> {
+    let line = text.lines().find_map(|line| line.strip_prefix("log"));
+    let rows = line.unwrap_or("").split_whitespace();
+    rows.filter_map(|row| row.parse().ok()).collect()
 }
 
 /// What the first line of a text shows.

@@ -45,6 +45,8 @@ pub enum Totals {
     Mixed,
     /// Those whose sums lie around the ceiling and right below it.
     Edge,
+    /// True ones on either side of a sum that is pinned, and few pinned ones.
+    Apart,
 }
 
 impl Totals {
@@ -55,6 +57,8 @@ impl Totals {
             (Totals::Mixed, Width::Wide) => random.pick(WIDE_MIXED),
             (Totals::Edge, Width::Narrow) => random.pick(EDGE),
             (Totals::Edge, Width::Wide) => random.pick(WIDE_EDGE),
+            (Totals::Apart, Width::Narrow) => random.pick(APART),
+            (Totals::Apart, Width::Wide) => random.pick(WIDE_APART),
         }
     }
 }
@@ -63,6 +67,7 @@ const MIXED: &[u64] = &[
     0, 1, 2, 7, 40, 300, 32_767, 32_768, 65_500, 65_533, 65_534, 65_535,
 ];
 const EDGE: &[u64] = &[0, 1, 2, 32_767, 32_768, 65_532, 65_533, 65_534, 65_535];
+const APART: &[u64] = &[0, 1, 40, 32_767, 32_768, 40_000, 65_533, 65_534, 65_535];
 
 /// Among them what is pinned in a narrow file and true here, and flagged totals
 /// far below the ceiling.
@@ -99,6 +104,19 @@ const WIDE_EDGE: &[u64] = &[
     FLAG + 4_294_967_295,
 ];
 
+const WIDE_APART: &[u64] = &[
+    0,
+    1,
+    40,
+    65_535,
+    2_147_483_648,
+    3_000_000_000,
+    4_294_967_293,
+    4_294_967_294,
+    FLAG + 3,
+    FLAG + 4_294_967_295,
+];
+
 const fn recipe(name: &'static str, sizes: &'static [u8], homes: Homes) -> Recipe {
     Recipe {
         name,
@@ -132,6 +150,8 @@ pub const RECIPES: &[Recipe] = &[
              ..recipe("saturation", &[3], Homes::Any) },
     Recipe { keys: (1, 1), used: (20, 60), gone: 0, operations: (2, 5), kinds: &[4, 4, 4, 3, 5], totals: Totals::Edge,
              length: Length::Each(3, 8), ..recipe("race to the ceiling", &[3], Homes::Any) },
+    Recipe { keys: (1, 1), used: (100, 100), gone: 0, operations: (3, 8), kinds: &[3, 4], totals: Totals::Apart,
+             length: Length::Each(4, 9), ..recipe("typed over", &[0, 1, 2], Homes::Any) },
     Recipe { operations: (1, 3), length: Length::Each(10, 40), ..recipe("idle", &[0, 3, 4], Homes::Near(2)) },
     Recipe { operations: (3, 20), used: (30, 90), length: Length::Each(0, 2),
              ..recipe("unfinished", &[2, 3, 4, 5], Homes::Near(2)) },
@@ -148,7 +168,7 @@ pub const RECIPES: &[Recipe] = &[
 ];
 
 /// How many recipes of files that are not large come first in the table.
-pub const SMALL: usize = 13;
+pub const SMALL: usize = 14;
 
 /// What the faults are put into: not a large file, with several records of each
 /// kind, some cells empty and some live, as far as the table has room.

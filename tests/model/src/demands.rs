@@ -160,8 +160,14 @@ impl Map {
             (1, Some(total)) => (1, total),
             (2, Some(total)) => (3, total),
             (3, Some(total)) => {
-                self.pairs.insert(key, amount);
-                (4, total)
+                // "A pinned total may not be typed over": it stands there after
+                // the update as before, held; any other gives way, changed.
+                let (code, left) = match width.pinned(total) {
+                    true => (9, total),
+                    false => (4, amount),
+                };
+                self.pairs.insert(key, left);
+                (code, total)
             }
             (4, Some(total)) => {
                 let (was, brought) = (width.pinned(total), width.pinned(amount));

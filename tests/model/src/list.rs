@@ -8,7 +8,7 @@ use crate::word::Word;
 const KINDS: [&str; 5] = ["find", "insert", "update", "add", "remove"];
 
 /// The names of the answers, from code 0.
-const ANSWERS: [&str; 9] = [
+const ANSWERS: [&str; 10] = [
     "unfinished",
     "found",
     "inserted",
@@ -18,6 +18,7 @@ const ANSWERS: [&str; 9] = [
     "absent",
     "full",
     "capped",
+    "held",
 ];
 
 /// Appends the text of a run, from its outcome and the slices as the run left

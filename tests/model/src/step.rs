@@ -93,6 +93,13 @@ pub(crate) mod answer {
     pub(crate) fn capped<W: Word>(total: W::Total) -> W {
         W::answer(8, total)
     }
+
+    /// Of the update "that reads a pinned total of its room"; the total is that
+    /// one, which stays. The document's word is held: here an operation holds
+    /// the word that its swap expects, and this one holds none.
+    pub(crate) fn retained<W: Word>(total: W::Total) -> W {
+        W::answer(9, total)
+    }
 }
 
 /// What a step did for its operation ("turns in one of four ways").
@@ -152,6 +159,10 @@ impl<W: Word> Progress<W> {
         match self.operation.kind {
             Kind::Find => Turn::Finished(answer::found(word.total())),
             Kind::Insert => Turn::Finished(answer::present(word.total())),
+            // "Finishes at that read", so that there is no swap to lose.
+            Kind::Update if W::is_saturated(word.total()) => {
+                Turn::Finished(answer::retained(word.total()))
+            }
             Kind::Update | Kind::Add | Kind::Remove => self.hold(word),
         }
     }

@@ -22,6 +22,7 @@ at_both_widths![
     wrong_answers_are_rejected,
     wrong_cells_are_rejected,
     full_is_right_only_where_no_cell_is_left,
+    an_update_behind_the_add_that_pins_is_to_be_held,
     refused_calls_are_no_runs,
     totals_are_silent_without_their_hypotheses,
     cells_suffice_for_new_rooms_counted_once,
@@ -111,6 +112,49 @@ fn wide_at_and_below() -> Case<u64> {
     (filled(8, &[(4, 1, 40), (5, 9, 0)]), operations, after)
 }
 
+/// An update of a pinned total and one of a true total by a pinned amount, as
+/// they end.
+fn held_and_changed() -> Case<u32> {
+    let after = After {
+        done: 2,
+        cells: table(8, &[(4, 1, 65_535), (5, 9, 65_535)]),
+        answers: vec![answer("held", 65_535), answer("changed", 65_534)],
+        log: vec![0, 1],
+    };
+    let operations = [operation("update", 1, 7), operation("update", 9, 65_535)];
+    let start = table(8, &[(4, 1, 65_535), (5, 9, 65_534)]);
+    (start, operations, after)
+}
+
+/// The same of wide totals: a flagged one far below the ceiling, and a true one
+/// that a narrow table would have as pinned.
+fn wide_held_and_changed() -> Case<u64> {
+    let after = After {
+        done: 2,
+        cells: filled(8, &[(4, 1, FLAG + 3), (5, 9, FLAG + 4)]),
+        answers: vec![reply("held", FLAG + 3), reply("changed", 65_535)],
+        log: vec![0, 1],
+    };
+    let operations = [
+        row::<u64>("update", 1, 7),
+        row::<u64>("update", 9, FLAG + 4),
+    ];
+    let start = filled(8, &[(4, 1, FLAG + 3), (5, 9, 65_535)]);
+    (start, operations, after)
+}
+
+/// An add that pins a true total, and an update of it that comes behind.
+fn capped_and_held<W: Width>() -> Case<W> {
+    let after = After {
+        done: 2,
+        cells: filled(8, &[(4, 1, W::PINNED)]),
+        answers: vec![reply("capped", 40), reply("held", W::PINNED)],
+        log: vec![0, 1],
+    };
+    let operations = [row::<W>("add", 1, W::PINNED), row::<W>("update", 1, 7)];
+    (filled(8, &[(4, 1, 40)]), operations, after)
+}
+
 /// The checker says that the case, spoiled so, differs from the map in this.
 fn assert_differs<W: Width>(
     (start, operations, mut after): Case<W>,
@@ -136,6 +180,8 @@ fn right_ends_of_either_width_agree_with_the_map<W: Width>() {
 fn right_ends_at_the_ceiling_agree_with_the_map() {
     assert_agree([capped_and_changed(), below_and_inserted()]);
     assert_agree([flagged_both_ways(), wide_at_and_below()]);
+    assert_agree([held_and_changed(), capped_and_held()]);
+    assert_agree([wide_held_and_changed(), capped_and_held()]);
 }
 
 fn a_wrong_log_is_rejected<W: Width>() {
@@ -233,6 +279,98 @@ fn a_wide_capped_answer_is_right_only_where_a_total_became_flagged() {
         |after| after.answers[1] = reply("capped", 0),
         "operation 1 answers code 8 total 0, the map code 4 total 0",
     );
+}
+
+#[test]
+fn a_held_answer_is_right_only_where_an_update_met_a_pinned_total() {
+    let held = |spoil, what| assert_differs(held_and_changed(), spoil, what);
+    held(
+        |after| after.answers[0] = answer("changed", 65_535),
+        "operation 0 answers code 4 total 65535, the map code 9 total 65535",
+    );
+    // The total of a held answer is the one that stays.
+    held(
+        |after| after.answers[0] = answer("held", 7),
+        "operation 0 answers code 9 total 7, the map code 9 total 65535",
+    );
+    // Typed over all the same, told or not.
+    held(
+        |after| after.cells[4] = cell(1, 7),
+        "hold the pairs {1: 7, 9: 65535}, the map {1: 65535, 9: 65535}",
+    );
+    held(
+        |after| {
+            after.answers[0] = answer("changed", 65_535);
+            after.cells[4] = cell(1, 7);
+        },
+        "operation 0 answers code 4 total 65535, the map code 9 total 65535",
+    );
+    // A true total is not held, not even against a pinned amount.
+    held(
+        |after| {
+            after.answers[1] = answer("held", 65_534);
+            after.cells[5] = cell(9, 65_534);
+        },
+        "operation 1 answers code 9 total 65534, the map code 4 total 65534",
+    );
+    held(
+        |after| after.answers[1] = answer("held", 65_535),
+        "operation 1 answers code 9 total 65535, the map code 4 total 65534",
+    );
+}
+
+#[test]
+fn a_wide_held_answer_is_right_only_where_an_update_met_a_flag() {
+    let held = |spoil, what| assert_differs(wide_held_and_changed(), spoil, what);
+    held(
+        |after| {
+            after.answers[0] = reply("changed", FLAG + 3);
+            after.cells[4] = cell(1, 7);
+        },
+        "operation 0 answers code 4 total 3 flagged, the map code 9 total 3 flagged",
+    );
+    // Without its flag, and with the amount.
+    held(
+        |after| after.answers[0] = reply("held", 3),
+        "operation 0 answers code 9 total 3, the map code 9 total 3 flagged",
+    );
+    held(
+        |after| after.answers[0] = reply("held", 7),
+        "operation 0 answers code 9 total 7, the map code 9 total 3 flagged",
+    );
+    let map = "the map {1: 3 flagged, 9: 4 flagged}";
+    held(|after| after.cells[4] = cell(1, 7), map);
+    held(|after| after.cells[4] = cell(1, FLAG + 7), map);
+    held(|after| after.cells[4] = cell(1, 3), map);
+    held(|after| after.cells[4] = cell(1, u64::PINNED), map);
+    // 65,535 without the flag is true.
+    held(
+        |after| {
+            after.answers[1] = reply("held", 65_535);
+            after.cells[5] = cell(9, 65_535);
+        },
+        "operation 1 answers code 9 total 65535, the map code 4 total 65535",
+    );
+}
+
+fn an_update_behind_the_add_that_pins_is_to_be_held<W: Width>() {
+    let late = |spoil, what| assert_differs(capped_and_held::<W>(), spoil, what);
+    // As a step would do that swapped whatever it had read.
+    late(
+        |after| {
+            after.answers[1] = reply("changed", W::PINNED);
+            after.cells[4] = cell(1, 7);
+        },
+        "operation 1 answers code 4",
+    );
+    // Held with the total that it had read first.
+    late(
+        |after| after.answers[1] = reply("held", 40),
+        "operation 1 answers code 9 total 40, the map code 9",
+    );
+    // Had the update come first, it would have been changed.
+    late(|after| after.log = vec![1, 0], "operation 1 answers code 9");
+    late(|after| after.cells[4] = cell(1, 7), "hold the pairs {1: 7}");
 }
 
 #[test]
@@ -369,6 +507,8 @@ fn assert_every_short_schedule_agrees<W: Width>(amounts: [u64; 5]) {
 #[test]
 fn every_short_schedule_agrees_with_the_map_at_every_prefix() {
     assert_every_short_schedule_agrees::<u32>([0, 7, 30, 65_530, 0]);
+    // Of two updates by a pinned amount one is held.
+    assert_every_short_schedule_agrees::<u32>([0, 7, 65_535, 5, 0]);
 }
 
 #[test]
@@ -408,6 +548,35 @@ fn adds_around_the_ceiling_agree_with_the_map() {
     let flagged = true_totals.clone().map(|number| number + FLAG);
     let wide: Vec<u64> = true_totals.chain(flagged).chain([u64::PINNED]).collect();
     assert_adds_agree::<u64>(&wide);
+}
+
+/// Two updates, or an add and an update, of every such total and by every such
+/// amount.
+fn assert_updates_agree<W: Width>(near: &[u64]) {
+    for &total in near {
+        let cells: Vec<W> = filled(8, &[(4, 1, total)]);
+        for &first in near {
+            for &second in near {
+                for kind in ["update", "add"] {
+                    let operations = [row::<W>(kind, 1, first), row::<W>("update", 1, second)];
+                    for schedule in [[0, 0, 1, 1, 1, 1], [0, 1, 0, 1, 1, 1], [1, 0, 1, 0, 0, 0]] {
+                        let at_prefixes =
+                            linearizable_at_every_prefix(&cells, &operations, &schedule);
+                        assert_eq!(at_prefixes, Ok(()), "{total} {kind} {first} {second}");
+                    }
+                }
+            }
+        }
+    }
+}
+
+#[test]
+fn updates_around_the_ceiling_agree_with_the_map() {
+    assert_updates_agree::<u32>(&[0, 1, 40, 32_768, 65_533, 65_534, 65_535]);
+    let numbers = [0, 3, 65_534, 65_535, 65_536, 4_294_967_294];
+    let flagged = numbers.map(|number| number + FLAG);
+    let wide = [&numbers[..], &flagged, &[u64::PINNED]].concat();
+    assert_updates_agree::<u64>(&wide);
 }
 
 /// The first two are amounts added to room 1.

@@ -120,6 +120,7 @@ fn assert_alone<W: Width>(cells: &[W], stop: usize, alone: Alone<W>) {
 
 at_both_widths![
     own_key_at_home,
+    own_key_at_home_with_a_pinned_total,
     empty_home,
     own_key_behind_another_and_a_tombstone,
     empty_cell_behind_a_tombstone_round_the_end,
@@ -128,6 +129,11 @@ at_both_widths![
     of_two_inserts_the_loser_finds_the_key_present,
     a_cell_lost_to_another_key_is_read_again_and_passed,
     an_update_that_lost_to_a_remove_is_absent,
+    an_update_that_lost_twice_is_held_once_the_total_is_pinned,
+    an_update_is_held_by_a_pinned_total_further_on,
+    an_update_by_a_pinned_amount_is_changed_and_the_next_held,
+    what_comes_behind_a_held_update_meets_the_same_total,
+    a_room_removed_and_inserted_anew_can_be_updated,
     a_remove_that_lost_takes_the_new_total,
     a_swap_may_be_lost_again_and_again,
     a_cell_that_holds_the_seen_word_again_is_swapped,
@@ -143,6 +149,20 @@ fn own_key_at_home<W: Width>() {
         ("update", 2, ("changed", 40), Some(cell(1, 7))),
         ("add", 2, ("changed", 40), Some(cell(1, 47))),
         ("remove", 2, ("removed", 40), Some(W::GONE)),
+    ];
+    for case in cases {
+        assert_alone(&cells, 4, case);
+    }
+}
+
+fn own_key_at_home_with_a_pinned_total<W: Width>() {
+    let cells = filled(8, &[(4, 1, W::PINNED)]);
+    let cases: [Alone<W>; 5] = [
+        ("find", 1, ("found", W::PINNED), None),
+        ("insert", 1, ("present", W::PINNED), None),
+        ("update", 1, ("held", W::PINNED), None),
+        ("add", 2, ("changed", W::PINNED), Some(cell(1, W::PINNED))),
+        ("remove", 2, ("removed", W::PINNED), Some(W::GONE)),
     ];
     for case in cases {
         assert_alone(&cells, 4, case);
@@ -168,7 +188,7 @@ fn own_key_behind_another_and_a_tombstone<W: Width>() {
     let cases: [Alone<W>; 5] = [
         ("find", 3, ("found", W::PINNED), None),
         ("insert", 3, ("present", W::PINNED), None),
-        ("update", 4, ("changed", W::PINNED), Some(cell(1, 7))),
+        ("update", 3, ("held", W::PINNED), None),
         ("add", 4, ("changed", W::PINNED), Some(cell(1, W::PINNED))),
         ("remove", 4, ("removed", W::PINNED), Some(W::GONE)),
     ];
@@ -257,6 +277,118 @@ fn an_update_that_lost_to_a_remove_is_absent<W: Width>() {
         &[reply("removed", 40), reply("absent", 0)],
         &[0, 1],
         &filled(8, &[(4, 65_535, 0)]),
+    );
+}
+
+fn an_update_that_lost_twice_is_held_once_the_total_is_pinned<W: Width>() {
+    // The first add leaves the total true, and the update holds that word then.
+    let operations = [
+        row::<W>("update", 1, 7),
+        row::<W>("add", 1, 5),
+        row::<W>("add", 1, W::PINNED),
+    ];
+    assert_leaves::<W>(
+        Call::new(
+            filled(8, &[(4, 1, 40)]),
+            &operations,
+            &[0, 1, 1, 0, 0, 2, 2, 0, 0],
+        ),
+        [3, 2, 0],
+        &[
+            reply("held", W::PINNED),
+            reply("changed", 40),
+            reply("capped", 45),
+        ],
+        &[1, 2, 0],
+        &filled(8, &[(4, 1, W::PINNED)]),
+    );
+}
+
+fn an_update_is_held_by_a_pinned_total_further_on<W: Width>() {
+    // It holds room 1 with 40, which is removed and comes back in cell 5.
+    let operations = [
+        row::<W>("update", 1, 7),
+        row::<W>("remove", 1, 0),
+        row::<W>("insert", 1, W::PINNED),
+    ];
+    assert_leaves::<W>(
+        Call::new(
+            filled(8, &[(4, 1, 40)]),
+            &operations,
+            &[0, 1, 1, 2, 2, 2, 0, 0, 0],
+        ),
+        [3, 1, 0],
+        &[
+            reply("held", W::PINNED),
+            reply("removed", 40),
+            reply("inserted", 0),
+        ],
+        &[1, 2, 0],
+        &filled(8, &[(4, 65_535, 0), (5, 1, W::PINNED)]),
+    );
+}
+
+fn an_update_by_a_pinned_amount_is_changed_and_the_next_held<W: Width>() {
+    let operations = [row::<W>("update", 1, W::PINNED), row::<W>("update", 1, 7)];
+    assert_leaves::<W>(
+        Call::new(filled(8, &[(4, 1, 40)]), &operations, &[0, 0, 1]),
+        [2, 0, 0],
+        &[reply("changed", 40), reply("held", W::PINNED)],
+        &[0, 1],
+        &filled(8, &[(4, 1, W::PINNED)]),
+    );
+}
+
+fn what_comes_behind_a_held_update_meets_the_same_total<W: Width>() {
+    let operations = [
+        row::<W>("update", 1, 7),
+        row::<W>("find", 1, 0),
+        row::<W>("insert", 1, 8),
+        row::<W>("add", 1, 9),
+        row::<W>("update", 1, 0),
+        row::<W>("remove", 1, 0),
+    ];
+    assert_leaves::<W>(
+        Call::new(
+            filled(8, &[(4, 1, W::PINNED)]),
+            &operations,
+            &[0, 1, 2, 3, 3, 4, 5, 5],
+        ),
+        [6, 0, 0],
+        &[
+            reply("held", W::PINNED),
+            reply("found", W::PINNED),
+            reply("present", W::PINNED),
+            reply("changed", W::PINNED),
+            reply("held", W::PINNED),
+            reply("removed", W::PINNED),
+        ],
+        &[0, 1, 2, 3, 4, 5],
+        &filled(8, &[(4, 65_535, 0)]),
+    );
+}
+
+fn a_room_removed_and_inserted_anew_can_be_updated<W: Width>() {
+    // "The trade practice is now to measure again."
+    let operations = [
+        row::<W>("remove", 1, 0),
+        row::<W>("insert", 1, 52_000),
+        row::<W>("update", 1, 52_500),
+    ];
+    assert_leaves::<W>(
+        Call::new(
+            filled(8, &[(4, 1, W::PINNED)]),
+            &operations,
+            &[0, 0, 1, 1, 1, 2, 2, 2],
+        ),
+        [3, 0, 0],
+        &[
+            reply("removed", W::PINNED),
+            reply("inserted", 0),
+            reply("changed", 52_000),
+        ],
+        &[0, 1, 2],
+        &filled(8, &[(4, 65_535, 0), (5, 1, 52_500)]),
     );
 }
 
@@ -417,7 +549,7 @@ fn wide_sums_are_whole_or_held_and_flagged_as_the_sentence_has_it() {
 /// both are listed.
 type Line = ((&'static str, u64), (&'static str, u64), &'static str);
 
-const LINES: [Line; 9] = [
+const LINES: [Line; 10] = [
     (("find", 0), ("found", 65_535), "find 1 0 found pinned"),
     (
         ("insert", 65_535),
@@ -439,9 +571,14 @@ const LINES: [Line; 9] = [
         ("capped", 65_534),
         "add 1 pinned capped 65534",
     ),
+    (
+        ("update", 65_534),
+        ("held", 65_535),
+        "update 1 65534 held pinned",
+    ),
 ];
 
-const WIDE_LINES: [Line; 9] = [
+const WIDE_LINES: [Line; 10] = [
     (
         ("find", 0),
         ("found", FLAG + 65_535),
@@ -475,10 +612,15 @@ const WIDE_LINES: [Line; 9] = [
         ("capped", 65_536),
         "add 1 atleast 4294967295 capped 65536",
     ),
+    (
+        ("update", 65_535),
+        ("held", FLAG + 3),
+        "update 1 65535 held atleast 3",
+    ),
 ];
 
 /// Lists the operations and answers, and four cells with how these are listed.
-fn assert_listed<W: Width>(lines: [Line; 9], named: [(usize, u64, u64); 4], cells_text: &str) {
+fn assert_listed<W: Width>(lines: [Line; 10], named: [(usize, u64, u64); 4], cells_text: &str) {
     let outcome = Outcome {
         number: 0,
         place: 0,
@@ -487,7 +629,7 @@ fn assert_listed<W: Width>(lines: [Line; 9], named: [(usize, u64, u64); 4], cell
         idle: 10,
     };
     let (mut operations, mut answers) = (vec![], vec![]);
-    let mut expected = String::from("text\nrows 9 done 3 lost 12345 idle 10\n");
+    let mut expected = String::from("text\nrows 10 done 3 lost 12345 idle 10\n");
     for (number, ((kind, amount), (name, total), line)) in lines.into_iter().enumerate() {
         operations.push(row::<W>(kind, 1, amount));
         answers.push(reply::<W>(name, total));

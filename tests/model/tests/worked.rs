@@ -1,7 +1,8 @@
 //! Every case that the specification works out, in its order and with every
 //! number it states; behind them those of document 02 by its requests: the adds
-//! that hit the ceiling, A1, tables of 1, 2 and 4 cells, A2, and the wide width,
-//! A4, with their neighbours. Tables have 8 cells where no other number stands.
+//! that hit the ceiling, A1, tables of 1, 2 and 4 cells, A2, the wide width, A4,
+//! and updates of pinned totals, A6, with their neighbours. Tables have 8 cells
+//! where no other number stands.
 
 mod support {
     pub mod answers;
@@ -483,7 +484,7 @@ fn an_add_to_a_pinned_total_is_changed() {
 #[test]
 fn an_update_to_a_pinned_amount_is_changed() {
     // Only an add is capped.
-    for total in [0, 40, 65_534, 65_535] {
+    for total in [0, 40, 65_534] {
         let update = operation("update", 1, 65_535);
         assert_room_one::<u32>(total, update, "changed", 65_535);
     }
@@ -725,18 +726,18 @@ fn flags_in_a_wide_run_text() {
         op(2, 17, (1, 0)),
         op(3, 9, (0, 4_294_967_294)),
         op(5, 1, (0, 0)),
-        sc(&[0, 0, 1, 1, 1, 2, 3, 3, 3, 3, 3, 4, 4, 4, 5, 5]),
+        sc(&[0, 0, 1, 1, 1, 2, 3, 3, 3, 3, 3, 4, 4, 5, 5]),
     ];
     let expected = "rows 6 done 6 lost 0 idle 0\n\
                     row 0 add 1 4 changed atleast 3\n\
                     row 1 add 9 atleast 4 capped 65535\n\
                     row 2 find 1 0 found atleast 7\n\
                     row 3 insert 17 atleast 0 inserted 0\n\
-                    row 4 update 9 4294967294 changed atleast 65539\n\
+                    row 4 update 9 4294967294 held atleast 65539\n\
                     row 5 remove 1 0 removed atleast 7\n\
                     log 0 1 2 3 4 5\n\
                     cell 4 gone\n\
-                    cell 5 9 4294967294\n\
+                    cell 5 9 atleast 65539\n\
                     cell 6 gone\n\
                     cell 7 17 atleast 0\n";
     assert_eq!(text(&file.concat()), expected);
@@ -815,13 +816,17 @@ fn a_wide_add_to_a_pinned_total_is_changed_and_counts_on() {
 }
 
 #[test]
-fn a_wide_update_puts_its_amount_with_its_flag() {
+fn a_wide_update_of_a_true_total_puts_its_amount_with_its_flag() {
     let worked = [
         (3, FLAG + 4),
-        (FLAG + 3, 4),
-        (FLAG + 3, FLAG + 4),
-        (MOST, 0),
+        (3, 4),
         (0, MOST),
+        // Pinned in the narrow width, and true here.
+        (65_535, 7),
+        (65_535, 65_535),
+        (65_535, FLAG + 65_535),
+        (65_536, 0),
+        (4_294_967_294, 0),
         (4_294_967_294, 4_294_967_294),
     ];
     for (total, amount) in worked {
@@ -874,9 +879,162 @@ fn a_word_that_differs_by_its_flag_alone_loses_the_swap() {
         [reply("changed", 40), reply("changed", FLAG + 40)],
         FLAG + 47,
     );
-    assert_second_retries::<u64>(
-        [row::<u64>("add", 1, FLAG), row::<u64>("update", 1, 7)],
-        [reply("capped", 40), reply("changed", FLAG + 40)],
+    assert_update_comes_too_late::<u64>(row::<u64>("add", 1, FLAG), reply("capped", 40), FLAG + 40);
+}
+
+/// One update alone on room 1, which has a pinned total: it finishes at its
+/// only read with that total, further entries are idle, and the cell stays.
+fn assert_held<W: Width>(total: u64, amount: u64) {
+    let before = filled(8, &[(4, 1, total)]);
+    let update = [row::<W>("update", 1, amount)];
+    for idle in [0, 1, 2] {
+        assert_leaves::<W>(
+            Call::new(before.clone(), &update, &vec![0; 1 + idle]),
+            [1, 0, idle],
+            &[reply("held", total)],
+            &[0],
+            &before,
+        );
+    }
+}
+
+#[test]
+fn an_update_of_a_pinned_total_is_held_at_its_read() {
+    for amount in [0, 1, 40, 65_534, 65_535] {
+        assert_held::<u32>(65_535, amount);
+    }
+    for amount in [0, 1, 65_534, 65_535] {
+        let update = operation("update", 1, amount);
+        assert_room_one::<u32>(65_534, update, "changed", amount);
+    }
+}
+
+#[test]
+fn a_wide_update_is_held_by_the_flag_and_not_by_the_number() {
+    let totals = [
+        FLAG,
+        FLAG + 3,
+        FLAG + 65_534,
+        FLAG + 65_535,
+        FLAG + 65_536,
+        FLAG + 4_294_967_294,
+        MOST,
+    ];
+    for total in totals {
+        for amount in [0, 3, 65_535, 4_294_967_294, FLAG, FLAG + 3, MOST] {
+            assert_held::<u64>(total, amount);
+        }
+    }
+}
+
+#[test]
+fn held_has_code_nine() {
+    // 9 x 2^16 + 65,535.
+    let mut call = Call::new(vec![0x0001_FFFF_u32], &[0x0003_0001_0007], &[0]);
+    assert_eq!(call.run().done, 1);
+    assert_eq!((call.answers[0], call.cells[0]), (0x0009_FFFF, 0x0001_FFFF));
+    // 9 x 2^33 + 2^32 + 3.
+    let three = 0x0001_0001_0000_0003_u64;
+    let mut call = Call::new(vec![three], &[0x0006_0002_0000_0007], &[0]);
+    assert_eq!(call.run().done, 1);
+    assert_eq!((call.answers[0], call.cells[0]), (0x13_0000_0003, three));
+}
+
+#[test]
+fn updates_of_pinned_totals_text() {
+    let file = [
+        tb(3),
+        cl(4, 1, 65_534),
+        cl(5, 9, 65_535),
+        op(3, 9, 100),
+        op(3, 1, 65_535),
+        op(3, 1, 100),
+        op(3, 9, 65_535),
+        op(2, 9, 100),
+        sc(&[0, 0, 1, 1, 2, 3, 3, 4, 4, 2]),
+    ];
+    // Row 1 types a pinned amount over a true total, which then stays.
+    let expected = "rows 5 done 5 lost 0 idle 1\n\
+                    row 0 update 9 100 held pinned\n\
+                    row 1 update 1 pinned changed 65534\n\
+                    row 2 update 1 100 held pinned\n\
+                    row 3 update 9 pinned held pinned\n\
+                    row 4 insert 9 100 present pinned\n\
+                    log 0 1 2 3 4\n\
+                    cell 4 1 pinned\n\
+                    cell 5 9 pinned\n";
+    assert_eq!(text(&file.concat()), expected);
+}
+
+/// Room 1 has total 40, and an operation and an update both hold that word. The
+/// operation swaps first and leaves this pinned total; the update loses its swap
+/// and is then held at its next read, not before and not after.
+fn assert_update_comes_too_late<W: Width>(first: u64, answer: W, total: u64) {
+    let before = filled(8, &[(4, 1, 40)]);
+    let after = filled(8, &[(4, 1, total)]);
+    let operations = [first, row::<W>("update", 1, 7)];
+    let lost = [0, 1, 0, 1];
+    assert_leaves::<W>(
+        Call::new(before.clone(), &operations, &lost),
+        [1, 1, 0],
+        &[answer, reply("unfinished", 0)],
+        &[0],
+        &after,
+    );
+    for idle in [0, 1] {
+        let schedule = [&lost[..], &vec![1; 1 + idle]].concat();
+        assert_leaves::<W>(
+            Call::new(before.clone(), &operations, &schedule),
+            [2, 1, idle],
+            &[answer, reply("held", total)],
+            &[0, 1],
+            &after,
+        );
+    }
+}
+
+#[test]
+fn an_update_whose_total_is_pinned_meanwhile_is_held() {
+    for amount in [65_495, 65_496, 65_534, 65_535] {
+        let add = operation("add", 1, amount);
+        assert_update_comes_too_late(add, answer("capped", 40), 65_535);
+    }
+    let update = operation("update", 1, 65_535);
+    assert_update_comes_too_late(update, answer("changed", 40), 65_535);
+}
+
+#[test]
+fn a_wide_update_whose_total_is_flagged_meanwhile_is_held() {
+    for (amount, total) in [
+        (4_294_967_255, MOST),
+        (4_294_967_294, MOST),
+        (MOST, MOST),
+        (FLAG, FLAG + 40),
+        (FLAG + 3, FLAG + 43),
+        (FLAG + 65_495, FLAG + 65_535),
+    ] {
+        let add = row::<u64>("add", 1, amount);
+        assert_update_comes_too_late::<u64>(add, reply("capped", 40), total);
+    }
+    for total in [FLAG, FLAG + 40, MOST] {
+        let update = row::<u64>("update", 1, total);
+        assert_update_comes_too_late::<u64>(update, reply("changed", 40), total);
+    }
+}
+
+#[test]
+fn an_update_that_lost_to_a_true_total_is_changed() {
+    // The sums come next to the ceiling, in the wide width also past 65,535.
+    assert_second_retries(
+        [operation("add", 1, 65_494), operation("update", 1, 7)],
+        [answer("changed", 40), answer("changed", 65_534)],
         7,
     );
+    for amount in [65_495, 4_294_967_254] {
+        assert_second_retries::<u64>(
+            [row::<u64>("add", 1, amount), row::<u64>("update", 1, 7)],
+            [reply("changed", 40), reply("changed", 40 + amount)],
+            7,
+        );
+    }
 }

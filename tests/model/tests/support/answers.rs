@@ -12,6 +12,7 @@ pub fn reply<W: Width>(name: &str, total: u64) -> W {
         "absent",
         "full",
         "capped",
+        "held",
     ];
     let code = codes.iter().position(|&code| code == name).unwrap() as u64;
     W::word(code * W::ABOVE_TOTAL + total)
