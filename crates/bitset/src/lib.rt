@@ -1,6 +1,8 @@
 // Sets of 64 places, a word of 64 bits with one for each place, whose ones are the set's size: the finished
 // operations of a run (document 01, "What one step does"), and the keys that a check has seen. Every
 // function takes every input.
+#![tactic(auto)]
+
 ghost use Rattle.std.specs.Prelude.{◌≡◌};
 ghost use Rattle.std.specs.Int.Count.{ones};
 ghost use Rattle.semantics.specs.Sets.{including};

@@ -3,6 +3,8 @@
 // record is written in the layout of the other width, and what is the same at both is copied. The width of
 // the file that is read is told by flagged, as in the scan: false converts up, true down. Nothing that
 // the run judges is judged here.
+#![tactic(auto)]
+
 ghost use Rattle.std.specs.Prelude.{◌≡◌, Bool, true, false, cond, not, ◌+◌, ◌-◌, ◌*◌, ◌≤◌, length, take, drop};
 ghost use Rattle.io.specs.Counts.{IsPrefixLen};
 ghost use Rattle.semantics.specs.Run.{over};

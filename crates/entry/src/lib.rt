@@ -3,6 +3,8 @@
 // empty, so that an entry is written once for both widths: words are taken apart and packed here. The
 // definitions say where a run stands between two entries, and what it then holds (document 02, request A3).
 // Every function that is offered takes every input.
+#![tactic(auto)]
+
 mod slices; // slices.rt: a place of two slices
 pub mod answers; // answers.rt: the answers and the log
 
@@ -104,7 +106,7 @@ fn store(narrow: &mut [u32], wide: &mut [u64], at: usize, left: Left)
 }
 
 // What a step leaves beside the table: how its operation turned, and the operation's record.
-#[derive(Drop)]
+#[derive(Clone, Copy)]
 struct Turned {
     turn: Turn,
     progress: Record,
@@ -157,7 +159,7 @@ fn step_in(
 
 // What an entry leaves beside the slices: its operation's record, the set of finished operations, and the
 // lost swaps, of which there may be one more than before.
-#[derive(Drop)]
+#[derive(Clone, Copy)]
 pub struct Taken {
     pub progress: Record,
     pub finished: u64,

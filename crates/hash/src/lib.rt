@@ -1,5 +1,7 @@
 // The size of a table and the home of a key in it (document 01, "Cells, rows, schedule"): the cell that
 // the hash of the key gives, where a search begins. Every function takes every input.
+#![tactic(auto)]
+
 ghost use Rattle.std.specs.Prelude.{◌≡◌, true};
 ghost use Rattle.semantics.specs.Words.{size_allowed, home_in, scaled_home};
 

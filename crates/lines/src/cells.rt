@@ -59,7 +59,7 @@ fn put_cell(out: &mut [u8], at: usize, i: usize, w: u64, flagged: bool) -> usize
 }
 
 // The next cell that is not empty, with its word, or none.
-#[derive(Drop)]
+#[derive(Clone, Copy)]
 enum Next {
     Cell(usize, u64),
     Past,

@@ -5,7 +5,7 @@ ghost use Rattle.std.specs.Prelude.{◌≡◌, ◌++◌, get_or};
 ghost use Rattle.lines.specs.Element.{element_at};
 
 // A word that is lent, at sixty-four bits whatever its width, or none past the last.
-#[derive(Drop)]
+#[derive(Clone, Copy)]
 pub enum Element {
     Word(u64),
     Past,

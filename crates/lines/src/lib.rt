@@ -3,6 +3,8 @@
 // crate text writes: into any slice and from any position on, what lies past its end counted and stored
 // nowhere. Operations are words of 64 bits at both widths, and a flag says by which layout words are
 // read; answers and cells are lent as two slices each, of which one is empty.
+#![tactic(auto)]
+
 mod lent; // lent.rt: a word of two slices
 pub mod counts; // counts.rt: the line of the counts, and that of a refusal
 pub mod rows; // rows.rt: the lines of the operations

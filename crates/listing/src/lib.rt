@@ -4,6 +4,8 @@
 // the writer of the crate text does: past the slice's end bytes are counted and stored nowhere. One
 // listing serves both widths: answers and cells are lent as two slices each, of which one is empty, and a
 // flag says by which layout words are read and how totals are written.
+#![tactic(auto)]
+
 ghost use Rattle.std.specs.Prelude.{◌≡◌, ◌++◌, ◌+◌, ◌≤◌, ◌<◌, min, false, leb, length, get_or};
 ghost use Rattle.semantics.specs.Text.{text, decimal, texts_below, handed};
 ghost use Rattle.semantics.specs.Refusals.{most_operations};

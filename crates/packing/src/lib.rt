@@ -2,6 +2,8 @@
 // either width, their fields taken out and put together by shifts and masks; and whether a key is live.
 // The contracts say each field as a quotient or a remainder, so that callers need not reason about bits.
 // Every function takes every input.
+#![tactic(auto)]
+
 ghost use Rattle.std.specs.Prelude.{◌≡◌, ◌%◌};
 ghost use Rattle.semantics.specs.Words.{is_live_key};
 

@@ -2,6 +2,8 @@
 // run on exactly as many cells as the file says, and the listing. A file of either width is answered
 // (document 02, "A4"): its first mark says which, and the cells are lent as two slices, of which the one
 // of the other width is empty.
+#![tactic(auto)]
+
 ghost use Rattle.std.specs.Prelude.{◌≡◌, not, [], ◌≤◌, length};
 ghost use Rattle.io.specs.Counts.{IsPrefixLen};
 ghost use Rattle.semantics.specs.RunFile.{most_cells};

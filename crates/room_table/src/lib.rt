@@ -3,6 +3,8 @@
 // them. The reader and the run are for the tests and the bench, which call them from Rust: a slice is a
 // pointer and a length, and what is returned is a struct of C's layout. Of these two nothing is decided here:
 // each is the function that it calls, with the equation that function promises.
+#![tactic(auto)]
+
 ghost use Rattle.std.specs.Prelude.{◌≡◌};
 ghost use Rattle.semantics.specs.Narrow.{narrow_width, room_home, room_sum};
 ghost use Rattle.semantics.specs.Run.{run_result};

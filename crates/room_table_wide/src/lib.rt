@@ -2,6 +2,8 @@
 // function that it calls. They are a library of their own, beside room_table. A library is compiled as a whole, and
 // what serves both widths is compiled for the one that its callers use: so neither table pays for the
 // other.
+#![tactic(auto)]
+
 ghost use Rattle.std.specs.Prelude.{◌≡◌};
 ghost use Rattle.semantics.specs.Wide.{wide_width};
 ghost use Rattle.semantics.specs.Run.{run_result};

@@ -1,6 +1,8 @@
 // Up: the wide file of a narrow one, under a name of C, for the tests and the bench. Nothing is decided here: it is
 // the function that it calls. It is apart from room_narrow, so that each is compiled for its direction, as the
 // programs are.
+#![tactic(auto)]
+
 ghost use Rattle.std.specs.Prelude.{◌≡◌, false};
 ghost use Rattle.semantics.specs.Convert.{conversion};
 

@@ -1,5 +1,7 @@
 // Document 01, "A run in full": reads a run file of either width on standard input and writes the text
 // of its run.
+#![tactic(auto)]
+
 ghost use Rattle.std.specs.Prelude.{◌≡◌, true, ◌<◌, ◌≤◌, length};
 ghost use Rattle.io.specs.Counts.{IsPrefixLen};
 ghost use Rattle.semantics.specs.Run.{over};
@@ -8,7 +10,6 @@ ghost use Rattle.semantics.specs.RunFile.{longest_file};
 ghost use Rattle.semantics.specs.Response.{response};
 
 use io::{read_full, write_all};
-use libc::{STDIN_FILENO, STDOUT_FILENO};
 use report::report;
 use semantics::{MOST_BYTES, MOST_WIDE_TEXT};
 
@@ -19,7 +20,7 @@ fn read_file(file: &mut [u8]) -> usize
     requires { longest_file < length file.old }
     ensures { IsPrefixLen result file.new }
 {
-    read_full(STDIN_FILENO, file)
+    read_full(0, file)
 }
 
 // Writes the response to a file over the front of the text and says how long it is. It asks for as
@@ -39,5 +40,5 @@ fn main() {
     let n = read_file(&mut file);
     let mut text = [0u8; MOST_WIDE_TEXT];
     let length = respond(&file[..n], &mut text);
-    write_all(STDOUT_FILENO, &text[..length]);
+    write_all(1, &text[..length]);
 }

@@ -36,7 +36,7 @@ pub const NOTHING: Total = Total {
 };
 
 // An operation (document 01: a row): the number of its kind, its key and its amount.
-#[derive(Drop)]
+#[derive(Clone, Copy)]
 pub struct Operation {
     pub kind: u8,
     pub key: u16,
@@ -44,21 +44,21 @@ pub struct Operation {
 }
 
 // A cell is what its key says: empty under key 0, a tombstone under 65,535, live under any other.
-#[derive(Drop)]
+#[derive(Clone, Copy)]
 pub struct Cell {
     pub key: u16,
     pub total: Total,
 }
 
 // An answer: its code, and the total that it carries or 0.
-#[derive(Drop)]
+#[derive(Clone, Copy)]
 pub struct Answer {
     pub code: u32,
     pub total: Total,
 }
 
 // What adding two totals gives: their sum, and whether the first is capped by it.
-#[derive(Drop)]
+#[derive(Clone, Copy)]
 pub struct Sum {
     pub total: Total,
     pub capped: bool,
@@ -66,7 +66,7 @@ pub struct Sum {
 
 // What a kind of operation does: whether it makes a missing key; and where its key has a total,
 // whether it finishes at the read, the cell that its swap stores, and what it answers.
-#[derive(Drop)]
+#[derive(Clone, Copy)]
 pub struct Rule {
     pub known: bool,
     pub makes: bool,

@@ -16,7 +16,7 @@ use crate::effect::{ABSENT, Answer, Cell, FULL, INSERTED, NOTHING, Operation, is
 use semantics::Total;
 
 // The word that an operation holds: the empty word, or its own key with a total.
-#[derive(Drop)]
+#[derive(Clone, Copy)]
 pub enum Held {
     Vacant,
     Mine(Total),
@@ -24,7 +24,7 @@ pub enum Held {
 
 // How a record turns: it passes on, holds a word, loses its swap or finishes with an answer; or it
 // takes no step.
-#[derive(Drop)]
+#[derive(Clone, Copy)]
 pub enum Turn {
     Pass,
     Hold(Held),
@@ -34,7 +34,7 @@ pub enum Turn {
 }
 
 // What a step leaves: whether it stores, its cell as it then is, and how the record turns.
-#[derive(Drop)]
+#[derive(Clone, Copy)]
 pub struct Left {
     pub stores: bool,
     pub cell: Cell,
@@ -43,7 +43,7 @@ pub struct Left {
 
 // What an operation sees in a cell: its own key with a total, an empty cell, or another key or a
 // tombstone.
-#[derive(Drop)]
+#[derive(Clone, Copy)]
 enum Sight {
     Own(Total),
     Free,

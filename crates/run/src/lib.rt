@@ -3,6 +3,8 @@
 // that it names, or is idle. What follows the checks is written once for both widths: the table and the
 // answers are two slices each, of narrow words and of wide ones, of which one is empty. What asks something
 // of its caller is private here.
+#![tactic(auto)]
+
 ghost use Rattle.std.specs.Prelude.{◌≡◌, not, [], ◌<◌};
 ghost use Rattle.semantics.specs.Sets.{is_in};
 ghost use Rattle.semantics.specs.Narrow.{narrow_width};

@@ -3,6 +3,8 @@
 // it was; the second pass judges nothing, and both go from record to record by the same function. The
 // cells are lent as two slices, of narrow words and of wide ones: one reader serves files of either
 // width, and flagged says which, as it does in the scan. Of the slice of the other width nothing counts.
+#![tactic(auto)]
+
 ghost use Rattle.std.specs.Prelude.{◌≡◌, not, ◌+◌, ◌*◌, ◌<◌, ◌≤◌, length, set, replicate};
 ghost use Rattle.io.specs.Counts.{IsPrefixLen};
 ghost use Rattle.semantics.specs.Run.{over};

@@ -28,7 +28,7 @@ use Rattle.semantics.specs.Widths.{width_of}
 use Rattle.semantics.specs.Response as Response
 use Rattle.semantics.specs.Convert as Convert
 use Rattle.semantics.proofs.Widths.{packing-of}
-use Rattle.semantics.proofs.WordsHold.{demands}
+use Rattle.semantics.proofs.DemandsHold.{demands}
 use Rattle.semantics.specs.Cases as Cases
 use Rattle.semantics.specs.Cases.{result_of, holds, cases, in_full, longer, edge, wide_in_full, Meets}
 

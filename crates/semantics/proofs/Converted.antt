@@ -27,7 +27,7 @@ use Rattle.semantics.specs.RunFile.{Layout, layout_of, row, byte_at, pair_at, Co
 use Rattle.semantics.specs.Convert.{head_of, record_of, record_at, total_bytes_of, bytes_of, file_of, other_cell, other_operation, other_contents}
 use Rattle.semantics.proofs.Conditions.{none-met, met-late}
 use Rattle.semantics.proofs.Records.{judgement, last, more}
-use Rattle.semantics.proofs.Marks.{Sound, sound, sound-accepted, sound-first, sound-rest, is_known, within, scannable}
+use Rattle.semantics.proofs.Marks.{Sound, sound, sound-accepted, sound-first, sound-rest, is_known, scannable}
 use Rattle.semantics.proofs.Convert.{Bytes, pair_small, Fit, Copied, copied, Beside, sound-there, next-at, next-beside, record-there, written-long, is-written, part_of, parts, fit-total, take_next, bytes-again}
 use Rattle.semantics.proofs.Widths.{packing-of}
 use Rattle.semantics.proofs.Lists.{map-set}

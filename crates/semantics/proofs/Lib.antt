@@ -28,6 +28,7 @@ pub mod Converted
 pub mod Faithful
 pub mod RunPacks
 pub mod WordsHold
+pub mod DemandsHold
 pub mod Pinned
 pub mod Lengths
 pub mod Widths

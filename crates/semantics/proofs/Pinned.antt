@@ -17,7 +17,7 @@ use Rattle.semantics.specs.Words.{Width, setting_of}
 use Rattle.semantics.specs.Run.{run_result}
 use Rattle.semantics.specs.Demands.{log_of, cells_of, operations_of, replay_of, after_entries}
 use Rattle.semantics.proofs.Words.{Packing}
-use Rattle.semantics.proofs.WordsHold.{demands}
+use Rattle.semantics.proofs.DemandsHold.{demands}
 
 -- whether a room has a saturated total
 unfoldable pub is_pinned : Option Total → Bool

@@ -28,7 +28,7 @@ use Rattle.semantics.specs.Cases.{table, at, plain, flagged, wide_at, job, resul
 use Rattle.semantics.specs.Cases.{cell_file, row_file, wide_cell_file, wide_row_file, table_record, operation_record, schedule_record, wide_table_record, wide_operation_record}
 use Rattle.semantics.proofs.Booleans.{eq→eqb}
 use Rattle.semantics.proofs.Narrow.{narrow-packing}
-use Rattle.semantics.proofs.WordsHold.{demands}
+use Rattle.semantics.proofs.DemandsHold.{demands}
 use Rattle.semantics.proofs.Pinned.{is_pinned}
 use Rattle.semantics.proofs.Cases.{computed}
 

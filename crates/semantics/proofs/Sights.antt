@@ -4,7 +4,7 @@ use mathlib.Core.Path.{◌≡◌, refl, subst}
 use Prim.Native.Nat.{ℕ}
 use mathlib.Core.Bool.{Bool, true, false, cond}
 use mathlib.Core.Option.{none, some}
-use lib.Dec.{T, eqb}
+use lib.Dec.{eqb}
 use Rattle.semantics.specs.Cells.{Cell, empty, tombstone, live, keyed, is_empty}
 use Rattle.semantics.specs.Step.{Sight, own, free, other, sight}
 use Rattle.semantics.proofs.Table.{keyed-is-live}

@@ -77,7 +77,7 @@ looked {T} k (x ∷ cells) = go (keyed k x) refl (looked k cells)
   where
     go : (o : Option T) → keyed k x ≡ o → {l : Option T} → Looked k cells l → Looked k (x ∷ cells) (or_else o l)
     go (some t) e l = somewhere 0 e
-    go none e (nowhere h) = nowhere (λ j. elim j [ zero ↦ e | suc i ↦ h i ])
+    go none e (nowhere h) = nowhere (λ j. elim j as (λ (n : ℕ). keyed k (get_or (x ∷ cells) n empty) ≡ none) [ zero ↦ e | suc i ↦ h i ])
     go none e (somewhere j f) = somewhere (suc j) f
 
 -- the cell at the distance from h to i is i

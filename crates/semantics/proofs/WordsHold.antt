@@ -21,7 +21,7 @@ use Rattle.semantics.specs.Map.{replay}
 use Rattle.semantics.specs.Words.{Width, decode, encode, decode_operation, answer_word, setting_of}
 use Rattle.semantics.specs.Refusals.{Call, call_of}
 use Rattle.semantics.specs.Run.{Result, over, machine, answer_of, outcome_of, accepted_result, refusal_of, refused_result, result_if, run_result}
-use Rattle.semantics.specs.Demands.{log_of, replay_of, Linearizable, TotalsKept, Untouched, after_entries, AcceptedCall, Demands}
+use Rattle.semantics.specs.Demands.{log_of, replay_of, Linearizable, TotalsKept, Untouched, after_entries, AcceptedCall}
 use Rattle.semantics.proofs.Lists.{map_on}
 use Rattle.semantics.proofs.Counts.{none-false}
 use Rattle.semantics.proofs.Over.{over-get}
@@ -221,7 +221,7 @@ module _ {W : Width} (P : Packing W) (cells operations schedule answers log : Li
     log-after : (k : ℕ) → log_of (result-after k) ≡ (machine W cells operations (take k schedule)).log
     log-after k = ap (λ (r : Result). log_of r) (rules k) ∙ written-log P (called k) (passed k) (take k schedule) answers log
 
-    accepted-call-is : AcceptedCall W cells operations schedule answers log (run_result W cells operations schedule answers log)
+    pub accepted-call-is : AcceptedCall W cells operations schedule answers log (run_result W cells operations schedule answers log)
     unfolding accepted_result Untouched
     accepted-call-is =
         let call = call_of cells operations schedule (length answers) (length log) in
@@ -236,16 +236,3 @@ module _ {W : Width} (P : Packing W) (cells operations schedule answers log : Li
               ∙ ap (λ (r : Result). r.cells) (sym (rules k));
           totals = subst (TotalsKept W cells operations) (sym (accepted W cells operations schedule answers log e)) (words-totals P call ok schedule answers log);
         }
-
-  pub demands : Demands W cells operations schedule answers log (run_result W cells operations schedule answers log)
-  demands =
-      let number = number_is W cells operations schedule answers log in
-      record {
-        result = refl;
-        refused = λ h. refused W cells operations schedule answers log (λ e. h (number ∙ e));
-        accepted = λ e. accepted-call-is (sym number ∙ e);
-      }
-
-  -- of any result that equals it
-  pub demands-of : (r : Result) → run_result W cells operations schedule answers log ≡ r → Demands W cells operations schedule answers log r
-  demands-of r e = subst (Demands W cells operations schedule answers log) e demands

@@ -1,7 +1,7 @@
 -- Must be believed, and read first: it is all that `run` and `run_wide` promise.
 -- The theorem on one page: demands 1 to 3, of a call of the run and of what it leaves, at the end and after any number of its entries, at any
 -- width.
--- `run::run` promises `Demands` of its own slices, for every call, at the narrow width, and `run::run_wide` at the wide one; proofs/WordsHold.antt
+-- `run::run` promises `Demands` of its own slices, for every call, at the narrow width, and `run::run_wide` at the wide one; proofs/DemandsHold.antt
 -- proves it. That no call faults or runs for ever is what the prover checks of every function.
 -- Assumes nothing.
 use Rattle.std.specs.Prelude.{◌≡◌, ℕ, ◌+◌, ◌≤◌, ◌<◌, List, map, T, length, get_or, take}

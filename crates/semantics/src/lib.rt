@@ -1,6 +1,7 @@
 // Document 01 as definitions, with the theorems about them. What the model returns is declared here,
 // below every definition, so that the definitions name the very types that the code returns. This crate
 // has no function.
+#![tactic(auto)]
 
 // The limits of document 01: what a run takes, and what a reader of run files is lent room for.
 pub const MOST_CELLS: usize = 4096;
@@ -20,7 +21,7 @@ pub const MOST_WIDE_TEXT: usize = 148228;
 
 // A total: an amount, and whether it is saturated (document 01: pinned), so that it stands for at least
 // that much.
-#[derive(Drop)]
+#[derive(Clone, Copy)]
 pub struct Total {
     pub amount: u32,
     pub saturated: bool,
@@ -28,7 +29,7 @@ pub struct Total {
 
 // Why a call is turned away: document 01's number of the refusal, and its place. An accepted call
 // has number 0 and place 0.
-#[derive(Drop)]
+#[derive(Clone, Copy)]
 pub struct Refusal {
     pub number: u32,
     pub place: usize,
@@ -37,7 +38,7 @@ pub struct Refusal {
 // What a run returns beside the slices that it writes: whether it was turned away, how many
 // operations finished, how many swaps were lost and how many entries were idle.
 #[repr(C)]
-#[derive(Drop)]
+#[derive(Clone, Copy)]
 pub struct Outcome {
     pub number: u32,
     pub place: usize,
@@ -47,7 +48,7 @@ pub struct Outcome {
 }
 
 // A mark that opens a record of a run file: TB, CL, OP, SC, or none of them.
-#[derive(Drop)]
+#[derive(Clone, Copy)]
 pub enum Mark {
     Table,
     Cell,
@@ -60,7 +61,7 @@ pub enum Mark {
 // the part of the file that the last one belongs to (0 before the first), the number of cells, the
 // lowest cell number that the next CL record may name, and how many operations and entries came so far.
 // All of one width, so that there is no padding, which would be carried from record to record as well.
-#[derive(Drop)]
+#[derive(Clone, Copy)]
 pub struct Position {
     pub at: usize,
     pub part: usize,
@@ -72,7 +73,7 @@ pub struct Position {
 
 // What a scan of a run file makes of the record at a position: why it is turned away, 0 if it is not,
 // and the position past it; one that is turned away is not passed.
-#[derive(Drop)]
+#[derive(Clone, Copy)]
 pub struct Judged {
     pub number: u32,
     pub next: Position,
@@ -81,7 +82,7 @@ pub struct Judged {
 // What the reader of a run file returns beside the slices that it fills: whether the file was turned
 // away, and how many cells, operations and entries were written.
 #[repr(C)]
-#[derive(Drop)]
+#[derive(Clone, Copy)]
 pub struct Loaded {
     pub number: u32,
     pub place: usize,
@@ -92,7 +93,7 @@ pub struct Loaded {
 
 // What a call that writes bytes returns: whether it was turned away, and how many it wrote.
 #[repr(C)]
-#[derive(Drop)]
+#[derive(Clone, Copy)]
 pub struct Written {
     pub number: u32,
     pub place: usize,

@@ -2,6 +2,8 @@
 // The record of an operation turns in one of four ways, each a method by value; above them stands the
 // step over a lent record. What is offered takes every input: a record that is not one of an unfinished
 // operation, or a number that is no kind, takes no step, and nothing changes.
+#![tactic(auto)]
+
 ghost use Rattle.std.specs.Prelude.{◌≡◌, false, ◌<◌};
 ghost use Rattle.rules.specs.declared.turn.Turn.TheVariants.{Refuse};
 ghost use Rattle.rules.specs.Turn.{held_of};
@@ -25,7 +27,7 @@ pub const FINISHED: u64 = 3;
 // cells it has passed, its stage, and the total that it holds. Its answer is not kept: the turn that
 // finishes it has the answer. A run stores one for each operation and copies one at each entry, so its
 // fields leave no room between them.
-#[derive(Drop)]
+#[derive(Clone, Copy)]
 pub struct Record {
     pub at: usize,
     pub passed: usize,
@@ -34,7 +36,7 @@ pub struct Record {
 }
 
 // What a step leaves of its cell, and of its operation's record.
-#[derive(Drop)]
+#[derive(Clone, Copy)]
 pub struct Stepped {
     pub left: Left,
     pub progress: Record,

@@ -2,6 +2,8 @@
 // the slice's end is stored nowhere and is counted all the same, so every function takes every slice
 // and every position, and a text written into a slice of one byte tells how long it is. Each function
 // returns the position after what it wrote.
+#![tactic(auto)]
+
 pub mod terms; // terms.rt: the words of kinds, answers and totals
 
 ghost use Rattle.std.specs.Prelude.{◌≡◌, ◌+◌, ◌%◌, ◌++◌, ◌∷◌, []};

@@ -1,6 +1,8 @@
 // The run's refusals 1 to 8 (document 01, "Where a call is turned away"), judged in table order: those
 // of the slices here, then those of the words and those of the whole table. A table of either width is
 // lent as two slices, of narrow words and of wide ones; the one of the other width is not looked at.
+#![tactic(auto)]
+
 mod words; // words.rt: 4 to 6, the words of cells and operations, and the entries
 mod table; // table.rt: 7 and 8, the whole table
 mod keys; // keys.rt: the search for 7

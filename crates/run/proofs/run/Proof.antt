@@ -2,7 +2,7 @@
 -- Assumes nothing.
 use mathlib.Core.Path.{refl}
 use Rattle.semantics.proofs.Narrow.{narrow-packing}
-use Rattle.semantics.proofs.WordsHold.{demands-of}
+use Rattle.semantics.proofs.DemandsHold.{demands-of}
 use borrow.Author.Rules.{rules}
 use Rattle.run.proofs.run.Statement.{statement}
 use Rattle.run.proofs.run.Tie as tie

@@ -2,7 +2,7 @@
 -- Assumes nothing.
 use mathlib.Core.Path.{refl}
 use Rattle.semantics.proofs.Wide.{wide-packing}
-use Rattle.semantics.proofs.WordsHold.{demands-of}
+use Rattle.semantics.proofs.DemandsHold.{demands-of}
 use borrow.Author.Rules.{rules}
 use Rattle.run.proofs.run_wide.Statement.{statement}
 use Rattle.run.proofs.run_wide.Tie as tie
