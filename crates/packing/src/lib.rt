@@ -26,6 +26,7 @@ pub fn low_16(w: u64) -> u16
 }
 
 // Whether a key is live: 0 is the key of an empty cell, and 65,535 that of a tombstone.
+#[tactic(auto, unfolding(semantics::specs::Words::is_live_key))]
 pub fn is_live_key(k: u16) -> bool
     ensures { result ≡ is_live_key k }
 {

@@ -11,6 +11,7 @@ use semantics::Total;
 pub const TOMBSTONE: u32 = 65535 << 16;
 
 // The total that sixteen bits are: 65,535 is document 01's pinned.
+#[tactic(auto, unfolding(semantics::specs::Narrow::narrow))]
 pub fn narrow_total(bits: u16) -> Total
     ensures { result ≡ narrow bits }
 {
