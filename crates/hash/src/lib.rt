@@ -19,6 +19,7 @@ pub fn size_allowed(c: usize) -> bool
 // The home of a key in c cells, as its hash, one of 65,536, scaled to c: no quotient by a number that is
 // handed in is taken. Document 01 gives homes for allowed sizes alone; the first clause says what any
 // other size gets.
+#[tactic(auto, unfolding(semantics::specs::Words::scaled_home))]
 pub fn home(key: u16, c: u32) -> u32
     ensures scaled { result ≡ scaled_home c key }
     ensures home { size_allowed c ≡ true → result ≡ home_in c key }
