@@ -232,6 +232,7 @@ fn swap_own(ceiling: u32, operation: Operation, total: Total, cell: Cell) -> Lef
 
 // A compare-and-swap: the new cell is stored if the cell still equals the held word. It is the same in
 // a table of any size, wherever the operation stands.
+#[tactic(auto, unfolding(crate::specs::Turn::held_of))]
 pub fn compare_and_swap(ceiling: u32, operation: Operation, held: Held, cell: Cell) -> Left
     ensures { (c p : ℕ) → result ≡ step_of ceiling c operation (holding p (held_of held)) cell }
 {
