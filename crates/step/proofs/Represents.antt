@@ -21,7 +21,6 @@ use Rattle.rules.specs.Values.{operation_of, cell_of}
 use Rattle.rules.specs.declared.turn.Turn.TheVariants.{Refuse}
 use Rattle.rules.specs.Turn.{held_parts, turn_parts, stores, left_by, step_of}
 use Rattle.step.specs.declared.Record.{Record}
-use Rattle.step.specs.declared.Stepped.{Stepped}
 use Rattle.step.specs.Record.{reading_at, following, stage_held, total_held, place, record_of, turned, held_at, standing, is_within, left_at, step_taken}
 use Rattle.step.proofs.Steps.{within, step-within}
 

@@ -2,7 +2,7 @@
 // The record of an operation turns in one of four ways, each a method by value; above them stands the
 // step over a lent record. What is offered takes every input: a record that is not one of an unfinished
 // operation, or a number that is no kind, takes no step, and nothing changes.
-#![tactic(auto)]
+#![tactic(auto, unfolding(crate::specs::Record::stage_held, crate::specs::Record::total_held, crate::specs::Record::turned, crate::specs::Record::held_at, crate::specs::Record::standing, crate::specs::Record::is_within, crate::specs::Record::pending_of, crate::specs::Record::passed_on, crate::specs::Record::left_at, crate::specs::Record::step_taken, rules::specs::Turn::held_of))]
 
 ghost use Rattle.std.specs.Prelude.{◌≡◌, false, ◌<◌};
 ghost use Rattle.rules.specs.declared.turn.Turn.TheVariants.{Refuse};
