@@ -94,6 +94,10 @@ pub no_code : (n : ℕ) → 4294967296 ≤ n → [] ≡ code_word n
 unfolding code_word
 no_code n far = let past : length code_words ≤ n = omega arith in sym (get_or-eq_default code_words [] past)
 
+pub ruleset kind_letters = (kind-letters)
+
+pub ruleset codes = (code-letters, no_code)
+
 -- a total is saturated, and then each width has a word for it, or true
 module _ (t : Total) (wide : Bool) where
   pub at_least : t.saturated ≡ true → wide ≡ true → text "atleast " ++ decimal t.amount ≡ text_of wide t

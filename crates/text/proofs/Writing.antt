@@ -32,6 +32,16 @@ unfolding written
 next w [] b e f = ap (λ (x : Writing). written x b) e ∙ f
 next w (x ∷ a) b e f = next (put w x) a b e f
 
+-- the same as an equation, and where there is no text, as the search reads them
+pub written-append : (w : Writing) (a b : List ℕ) → written w (a ++ b) ≡ written (written w a) b
+written-append w a b = next w a b refl refl
+
+pub written-none : (w : Writing) → written w [] ≡ w
+unfolding written
+written-none w = refl
+
+pub ruleset steps = (written-append, written-none)
+
 -- a label before the second
 pub next-labelled : (w : Writing) {u v : Writing} (a label b : List ℕ) → written w a ≡ u → written u (label ++ b) ≡ v → written w (a ++ label ++ b) ≡ v
 next-labelled w a label b e f = same_text w (sym (append_assoc a label b)) (next w a (label ++ b) e f)

@@ -14,6 +14,7 @@ ghost use Rattle.text.specs.Writing.{written};
 pub const LAST_POSITION: usize = 18446744073709551615;
 
 // One byte. The position is held at the last, where no slice has a byte.
+#[tactic(auto, unfolding(crate::specs::Writing::written, crate::specs::Writing::put))]
 pub fn put(out: &mut [u8], at: usize, b: u8) -> usize
     ensures { written (record { at = at; out = out.old }) (b ∷ []) ≡ record { at = result; out = out.new } }
 {
@@ -28,6 +29,7 @@ pub fn put(out: &mut [u8], at: usize, b: u8) -> usize
 }
 
 // The bytes of a slice.
+#[tactic(auto, using(crate::proofs::Writing::steps))]
 pub fn put_bytes(out: &mut [u8], at: usize, bytes: &[u8]) -> usize
     ensures { written (record { at = at; out = out.old }) bytes.now ≡ record { at = result; out = out.new } }
 {
@@ -66,6 +68,7 @@ fn put_number(out: &mut [u8], at: usize, n: u64) -> usize
 }
 
 // A label and a number after it, in decimal.
+#[tactic(auto, using(crate::proofs::Writing::steps))]
 pub fn put_labelled(out: &mut [u8], at: usize, label: &[u8], n: u64) -> usize
     ensures { written (record { at = at; out = out.old }) (label.now ++ decimal n) ≡ record { at = result; out = out.new } }
 {

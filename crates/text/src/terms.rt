@@ -27,6 +27,7 @@ fn put_word(out: &mut [u8], at: usize, words: &[u8], from: usize) -> usize
 
 // A blank and the word of a kind; the blank alone for a number that is no kind. Each word has eleven
 // places, so that a blank stands after it.
+#[tactic(auto, using(crate::proofs::Words::kind_letters), unfolding(semantics::specs::Text::text))]
 pub fn put_kind(out: &mut [u8], at: usize, kind: u8) -> usize
     ensures { written (record { at = at; out = out.old }) (text " " ++ kind_word kind) ≡ record { at = result; out = out.new } }
 {
@@ -36,6 +37,7 @@ pub fn put_kind(out: &mut [u8], at: usize, kind: u8) -> usize
 
 // A blank and the word of an answer's code, in the same way. A number that no layout has for a code has
 // no place among the words, and no word.
+#[tactic(auto, using(crate::proofs::Words::codes), unfolding(semantics::specs::Text::text))]
 pub fn put_code(out: &mut [u8], at: usize, code: u64) -> usize
     ensures { written (record { at = at; out = out.old }) (text " " ++ code_word code) ≡ record { at = result; out = out.new } }
 {
@@ -48,6 +50,7 @@ pub fn put_code(out: &mut [u8], at: usize, code: u64) -> usize
 }
 
 // A blank and a total or an amount, as its width writes it.
+#[tactic(auto, unfolding(semantics::specs::Text::text, semantics::specs::Listing::narrow_text, semantics::specs::Listing::wide_text))]
 pub fn put_total(out: &mut [u8], at: usize, total: Total, flagged: bool) -> usize
     ensures { written (record { at = at; out = out.old }) (text " " ++ text_of flagged total) ≡ record { at = result; out = out.new } }
 {
