@@ -55,6 +55,7 @@ fn is_past_most(entries: usize, count: u8) -> bool
 
 // Order, size, body and limit of each mark, in table order. Where a record's size hangs on the width, the
 // smaller one is tested first, so that what is read of either width needs no test again.
+#[tactic(auto, unfolding(crate::specs::Faults::fault_of, semantics::specs::Refusals::first_met, semantics::specs::RunFile::mark_wrong, semantics::specs::RunFile::body_cut, semantics::specs::RunFile::body_wrong, semantics::specs::RunFile::one_too_many))]
 fn table_fault(rest: &[u8], flagged: bool, position: Position) -> u32
     ensures { result ≡ fault_of (layout_of flagged) rest.now position Mark.Table }
 {
@@ -70,6 +71,7 @@ fn table_fault(rest: &[u8], flagged: bool, position: Position) -> u32
     9
 }
 
+#[tactic(auto, unfolding(crate::specs::Faults::fault_of, semantics::specs::Refusals::first_met, semantics::specs::RunFile::mark_wrong, semantics::specs::RunFile::body_cut, semantics::specs::RunFile::body_wrong, semantics::specs::RunFile::one_too_many))]
 fn cell_fault(rest: &[u8], flagged: bool, position: Position) -> u32
     ensures { result ≡ fault_of (layout_of flagged) rest.now position Mark.Cell }
 {
@@ -96,6 +98,7 @@ fn cell_fault(rest: &[u8], flagged: bool, position: Position) -> u32
     9
 }
 
+#[tactic(auto, unfolding(crate::specs::Faults::fault_of, semantics::specs::Refusals::first_met, semantics::specs::RunFile::mark_wrong, semantics::specs::RunFile::body_cut, semantics::specs::RunFile::body_wrong, semantics::specs::RunFile::one_too_many))]
 fn operation_fault(rest: &[u8], flagged: bool, position: Position) -> u32
     ensures { result ≡ fault_of (layout_of flagged) rest.now position Mark.Operation }
 {
@@ -117,6 +120,7 @@ fn operation_fault(rest: &[u8], flagged: bool, position: Position) -> u32
     9
 }
 
+#[tactic(auto, unfolding(crate::specs::Faults::fault_of, semantics::specs::Refusals::first_met, semantics::specs::RunFile::mark_wrong, semantics::specs::RunFile::body_cut, semantics::specs::RunFile::body_wrong, semantics::specs::RunFile::one_too_many))]
 fn schedule_fault(rest: &[u8], flagged: bool, position: Position) -> u32
     ensures { result ≡ fault_of (layout_of flagged) rest.now position Mark.Schedule }
 {
@@ -137,6 +141,7 @@ fn schedule_fault(rest: &[u8], flagged: bool, position: Position) -> u32
 }
 
 // Why a record is turned away, by its mark. One with no mark may follow nothing.
+#[tactic(auto, using(semantics::proofs::Marks::follows_nothing), unfolding(crate::specs::Faults::fault_of, semantics::specs::Refusals::first_met, semantics::specs::RunFile::mark_wrong))]
 pub fn fault_of(rest: &[u8], flagged: bool, mark: Mark, position: Position) -> u32
     ensures { result ≡ fault_of (layout_of flagged) rest.now position mark }
 {

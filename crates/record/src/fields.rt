@@ -78,6 +78,7 @@ pub fn first_four(file: &[u8]) -> u32
 
 // Whether a mark of two letters stands at an offset. Both letters are compared as one number, so that
 // the four tests of mark_at become one choice.
+#[tactic(auto, unfolding(semantics::specs::RunFile::has_mark))]
 fn has_mark(file: &[u8], at: usize, mark: &[u8; 2]) -> bool
     ensures { result ≡ has_mark file.now at mark.now }
 {
@@ -85,6 +86,7 @@ fn has_mark(file: &[u8], at: usize, mark: &[u8; 2]) -> bool
 }
 
 // The table's mark is the one that tells the widths apart.
+#[tactic(auto, unfolding(semantics::specs::Text::text))]
 pub fn has_table(file: &[u8], at: usize, flagged: bool) -> bool
     ensures { result ≡ has_mark file.now at (layout_of flagged).table_letters }
 {
@@ -95,6 +97,7 @@ pub fn has_table(file: &[u8], at: usize, flagged: bool) -> bool
 }
 
 // The mark that stands at an offset, or none that is known.
+#[tactic(auto, unfolding(semantics::specs::Text::text, semantics::specs::RunFile::mark_at, semantics::specs::RunFile::mark_in))]
 pub fn mark_at(file: &[u8], at: usize, flagged: bool) -> Mark
     ensures { result ≡ mark_at (layout_of flagged) file.now at }
 {
@@ -115,6 +118,7 @@ pub fn mark_at(file: &[u8], at: usize, flagged: bool) -> Mark
 
 // The order of the records: whether a record of a part may follow one of the part before, 0 before the
 // first.
+#[tactic(auto, unfolding(semantics::specs::RunFile::may_follow))]
 pub(crate) fn may_follow(before: usize, part: usize) -> bool
     ensures { result ≡ may_follow before part }
 {
