@@ -12,7 +12,7 @@ use Rattle.semantics.specs.Refusals.{slices_conditions, words_conditions, table_
 use Rattle.semantics.specs.Widths.{width_of, of_width}
 use Rattle.semantics.specs.Lent.{table_keys, lent_words, lent_table}
 use Rattle.semantics.proofs.Conditions.{NoneMet, none-met, met-early, met-late}
-use Rattle.semantics.proofs.Lent.{words-alone, words-judged, keys-judged}
+use Rattle.semantics.proofs.Lent.{lent-size, keys-size, words-alone, words-judged, keys-judged}
 use Rattle.semantics.proofs.Widths.{packing-of}
 use Rattle.semantics.proofs.Keys.{keys-table}
 
@@ -64,3 +64,6 @@ module _ (flagged : Bool) (narrow wide : List ℕ) (alone : of_width (not flagge
             ∙ ap first_met (keys-judged flagged narrow wide alone ∙ keys-table (width_of flagged) (packing-of flagged).empty-key call)
             ∙ met-late (size_not_allowed call ∷ []) table (none.0, tt)
             ∙ sym (in_parts ∙ met-late (slices_conditions call) _ none ∙ met-late words _ words-none)
+
+-- how many keys two lent slices have, or whatever else is read of their words
+pub ruleset sizes = (keys-size, lent-size)

@@ -157,3 +157,10 @@ pub no-total : (flagged : Bool) (w : ℕ) {bits : ℕ} → bits ≡ cond flagged
 unfolding wide_operation_allowed
 no-total true w q e = rw (sym (amount-total w) ∙ ap flagged_total (sym q) ∙ e, and-false)
 no-total false w q e = let z : true ≡ false = sym (plain-total (w % 65536) (omega arith)) ∙ ap flagged_total (sym q) ∙ e in cc
+
+-- what decides the tests of a total, of a key and of the words without one
+pub ruleset totals = (plain-total, plain-ceiling, flagged-total)
+
+pub ruleset keys_above = (key_above, key-of-empty)
+
+pub ruleset other_words = (empty-decides)

@@ -15,6 +15,7 @@ use semantics::{MOST_ENTRIES, MOST_OPERATIONS, Refusal};
 
 // The conditions on the slices, by number alone since their place is 0: 1, the size of the table; 2,
 // too many operations or entries; 3, too short a slice for the answers or the log.
+#[tactic(auto, unfolding(semantics::specs::Refusals::first_met, semantics::specs::Refusals::size_not_allowed, semantics::specs::Refusals::too_many, semantics::specs::Refusals::too_short))]
 fn slices_number(
     narrow: &[u32],
     wide: &[u64],

@@ -97,6 +97,7 @@ fn first_unreachable_key(narrow: &[u32], wide: &[u64]) -> usize
 
 // The conditions on the whole table, 7 and 8. Before them comes 1, so that every call has its answer:
 // only where the size is allowed is the home of every key a cell of the table.
+#[tactic(auto, using(crate::proofs::Judged::sizes), unfolding(semantics::specs::Refusals::first_met, semantics::specs::Refusals::at_first, semantics::specs::Basics::some_below))]
 pub fn table_refusal(narrow: &[u32], wide: &[u64]) -> Refusal
     ensures { result ≡ first_met (lent_table (table_keys narrow.now wide.now)) }
 {

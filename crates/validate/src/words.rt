@@ -15,6 +15,7 @@ use semantics::Refusal;
 
 // What a wide word has below its key: no more than a total and its flag, and any total but the largest
 // without the flag. Nearly every total is below that one, so this is asked first.
+#[tactic(auto, using(crate::proofs::Wide::totals))]
 fn is_flagged_total(bits: u64) -> bool
     ensures { result ≡ (eqb (bits / 2 ^ 33) 0 && is_wide_total (flagged_in bits)) }
 {
@@ -28,6 +29,7 @@ fn is_flagged_total(bits: u64) -> bool
 }
 
 // 4: whether a cell may start with word w: a live key with any total, the empty word, or a tombstone.
+#[tactic(auto, unfolding(semantics::specs::Narrow::cell_allowed, semantics::specs::Narrow::tombstone_word))]
 fn cell_allowed(w: u32) -> bool
     ensures { result ≡ cell_allowed w }
 {
@@ -42,6 +44,7 @@ fn cell_allowed(w: u32) -> bool
 
 // Whether a wide cell has a live key or is the tombstone. This is asked of the whole word, which is one
 // test: the words of the live keys are those between the words of key 0 and the tombstone.
+#[tactic(auto, using(crate::proofs::Wide::keys_above))]
 fn is_live_or_tombstone(w: u64) -> bool
     ensures { result ≡ (is_live_key (wide_key_of w) || eqb w (65535 * 2 ^ 48)) }
 {
@@ -50,6 +53,7 @@ fn is_live_or_tombstone(w: u64) -> bool
 
 // A wide cell likewise; and the fifteen bits between its key and its flag are 0, and its total is a wide one.
 // All that is below the key is taken out at once; the tombstone has 0 there, which is a total.
+#[tactic(auto, using(crate::proofs::Wide::other_words))]
 fn wide_cell_allowed(w: u64) -> bool
     ensures { result ≡ wide_cell_allowed w }
 {
@@ -91,6 +95,7 @@ fn first_bad_cell(narrow: &[u32], wide: &[u64]) -> usize
 
 // 5: whether an operation may have this kind, with no amount or with some. Find and remove take none,
 // and any number but those of the five kinds is refused.
+#[tactic(auto, unfolding(semantics::specs::Words::is_kind, semantics::specs::Words::takes_amount))]
 fn kind_allowed(kind: u8, nothing: bool) -> bool
     ensures { result ≡ (is_kind kind && (takes_amount kind || nothing)) }
 {
@@ -172,6 +177,7 @@ fn first_bad_entry(schedule: &[u8], operations: usize) -> usize
 
 // The conditions on the words: 4, 5 and 6. Operations are flagged where they are in the wide layout, whose
 // amounts have a flag.
+#[tactic(auto, using(crate::proofs::Judged::sizes), unfolding(semantics::specs::Refusals::first_met, semantics::specs::Refusals::at_first, semantics::specs::Basics::some_below))]
 pub fn words_refusal(
     narrow: &[u32],
     wide: &[u64],
