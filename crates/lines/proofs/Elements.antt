@@ -4,6 +4,11 @@ use mathlib.Core.Path.{◌≡◌, refl, ap, ◌∙◌}
 use Prim.Native.Nat.{ℕ, zero, suc, ◌+◌, ◌-◌, ◌≤◌, ◌<◌}
 use mathlib.Core.List.{List, [], ◌∷◌, ◌++◌}
 use native.Mathlib.Omega.{arith}
+use mathlib.Core.Bool.{cond}
+use native.Mathlib.Decide.{dec_lt}
+use lib.Dec.{ltb}
+use borrow.Author.Tests.{lt-ltb, le-ltb}
+use Rattle.std.proofs.lemmas.Bool.Decides.{nat_tests}
 use lib.ListN.{length, get_or, length-append, get_or-append}
 use lib.Seq.{get_or-append-add}
 use Rattle.lines.specs.declared.lent.Element.TheVariants.{Word, Past}
@@ -21,6 +26,16 @@ past [] i b = refl
 past (w ∷ l) zero b = absurd (omega arith)
 past (w ∷ l) (suc i) b = past l i (omega arith)
 
+-- the same as one equation, by a test
+pub element-is : (l : List ℕ) (i : ℕ) → element_at l i ≡ cond (ltb i (length l)) (Word (get_or l i 0)) Past
+element-is l i =
+    elim (dec_lt i (length l)) [
+      | yes b ↦ rw (lt-ltb i (length l) b) (found l i b)
+      | no b ↦ rw (le-ltb i (length l) (omega arith)) (past l i (omega arith))
+    ]
+
+pub ruleset tested = (element-is, nat_tests)
+
 -- a narrow word, a wide one after the narrow ones, or none
 module _ (narrow wide : List ℕ) (i : ℕ) where
   pub in-narrow : i < length narrow → element_at (narrow ++ wide) i ≡ Word (get_or narrow i 0)
@@ -34,6 +49,8 @@ module _ (narrow wide : List ℕ) (i : ℕ) where
 
   pub in-none : length narrow + length wide ≤ i → element_at (narrow ++ wide) i ≡ Past
   in-none b = past (narrow ++ wide) i (omega (arith, length-append narrow wide))
+
+pub ruleset elements = (in-narrow, in-wide, in-none)
 
 -- a place with a word is one of the list
 pub is_word_lem : (l : List ℕ) (i : ℕ) {w : ℕ} → element_at l i ≡ Word w → (i < length l) × (get_or l i 0 ≡ w)

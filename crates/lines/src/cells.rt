@@ -17,6 +17,7 @@ use text::{put, put_bytes, put_labelled};
 
 // The word of a tombstone and the key of a cell, by the layout of their width. A narrow cell comes at 64
 // bits, and its key is all that lies above its total.
+#[tactic(auto, unfolding(semantics::specs::Words::encode))]
 fn tombstone(flagged: bool) -> u64
     ensures { result ≡ encode (width_of flagged) Cells·tombstone }
 {
@@ -36,6 +37,7 @@ fn key_in(w: u64, flagged: bool) -> u64
 }
 
 // What a cell that is not empty holds.
+#[tactic(auto, using(text::proofs::Writing::steps), unfolding(semantics::specs::Listing::contents_text, semantics::specs::Text::text, text::specs::Writing::written))]
 fn put_contents(out: &mut [u8], at: usize, w: u64, flagged: bool) -> usize
     ensures { written (record { at = at; out = out.old }) (contents_text (width_of flagged) (text_of flagged) w) ≡ record { at = result; out = out.new } }
 {
@@ -47,6 +49,7 @@ fn put_contents(out: &mut [u8], at: usize, w: u64, flagged: bool) -> usize
 }
 
 // The line of a cell; none for an empty one.
+#[tactic(auto, using(text::proofs::Writing::steps), unfolding(semantics::specs::Listing::cell_text, semantics::specs::Text::text, text::specs::Writing::written))]
 fn put_cell(out: &mut [u8], at: usize, i: usize, w: u64, flagged: bool) -> usize
     ensures { written (record { at = at; out = out.old }) (cell_text (width_of flagged) (text_of flagged) i w) ≡ record { at = result; out = out.new } }
 {
@@ -66,6 +69,7 @@ enum Next {
 }
 
 // Most cells of a table may be empty, so they are passed over here, in a loop of their own.
+#[tactic(auto, using(crate::proofs::Elements::tested), unfolding(crate::specs::Reached::Reached))]
 fn next_cell(cells32: &[u32], cells64: &[u64], from: usize) -> Next
     ensures { Reached (cells32.now ++ cells64.now) from result }
 {

@@ -8,6 +8,7 @@ use semantics::Outcome;
 use text::{put, put_labelled};
 
 // The end of a line: two numbers, a label before each.
+#[tactic(auto, using(text::proofs::Writing::steps), unfolding(semantics::specs::Text::text))]
 fn put_last_two(out: &mut [u8], at: usize, label: &[u8], n: u64, second: &[u8], m: u64) -> usize
     ensures { written (record { at = at; out = out.old })
         (label.now ++ decimal n ++ second.now ++ decimal m ++ line_end)
@@ -19,6 +20,7 @@ fn put_last_two(out: &mut [u8], at: usize, label: &[u8], n: u64, second: &[u8], 
 }
 
 // The line of a refusal.
+#[tactic(auto, unfolding(semantics::specs::Listing::refusal_text, semantics::specs::Text::text))]
 pub fn put_refusal(out: &mut [u8], at: usize, number: u32, place: usize) -> usize
     ensures { written (record { at = at; out = out.old }) (refusal_text number place) ≡ record { at = result; out = out.new } }
 {
@@ -26,6 +28,7 @@ pub fn put_refusal(out: &mut [u8], at: usize, number: u32, place: usize) -> usiz
 }
 
 // The line of the counts.
+#[tactic(auto, using(text::proofs::Writing::steps), unfolding(semantics::specs::Listing::counts_text, semantics::specs::Text::text, text::specs::Writing::written))]
 pub fn put_counts(out: &mut [u8], at: usize, rows: usize, outcome: Outcome) -> usize
     ensures { written (record { at = at; out = out.old }) (counts_text rows outcome) ≡ record { at = result; out = out.new } }
 {

@@ -19,6 +19,7 @@ fn widened(w: u32) -> u64
 
 // Word i of those lent. That there is none is found by the test that reads one, so that a loop over the
 // words makes no other.
+#[tactic(auto, using(crate::proofs::Elements::elements))]
 pub fn word_at(narrow: &[u32], wide: &[u64], i: usize) -> Element
     ensures { result ≡ element_at (narrow.now ++ wide.now) i }
 {

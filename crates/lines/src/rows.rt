@@ -21,6 +21,7 @@ fn code_in(answer: u64, flagged: bool) -> u64
 }
 
 // An operation's line: its key and amount, all that is of the operation, and what is of the answer.
+#[tactic(auto, using(text::proofs::Writing::steps), unfolding(semantics::specs::Text::text, text::specs::Writing::written))]
 fn put_amount(out: &mut [u8], at: usize, operation: u64, flagged: bool) -> usize
     ensures { written (record { at = at; out = out.old })
         (text " " ++ decimal ((width_of flagged).operation_key operation) ++ text " " ++ text_of flagged ((width_of flagged).amount_in operation))
@@ -30,6 +31,7 @@ fn put_amount(out: &mut [u8], at: usize, operation: u64, flagged: bool) -> usize
     put_total(out, at1, total_in(operation, flagged), flagged)
 }
 
+#[tactic(auto, using(text::proofs::Writing::steps), unfolding(semantics::specs::Listing::operation_text, semantics::specs::Text::text, text::specs::Writing::written))]
 fn put_operation(out: &mut [u8], at: usize, i: usize, operation: u64, flagged: bool) -> usize
     ensures { written (record { at = at; out = out.old }) (operation_text (width_of flagged) (text_of flagged) i operation) ≡ record { at = result; out = out.new } }
 {
@@ -38,6 +40,7 @@ fn put_operation(out: &mut [u8], at: usize, i: usize, operation: u64, flagged: b
     put_amount(out, at2, operation, flagged)
 }
 
+#[tactic(auto, using(text::proofs::Writing::steps), unfolding(semantics::specs::Listing::answer_text, semantics::specs::Text::text, text::specs::Writing::written))]
 fn put_answer(out: &mut [u8], at: usize, answer: u64, flagged: bool) -> usize
     ensures { written (record { at = at; out = out.old }) (answer_text (width_of flagged) (text_of flagged) answer) ≡ record { at = result; out = out.new } }
 {
@@ -45,6 +48,7 @@ fn put_answer(out: &mut [u8], at: usize, answer: u64, flagged: bool) -> usize
     put_total(out, at1, total_in(answer, flagged), flagged)
 }
 
+#[tactic(auto, using(text::proofs::Writing::steps), unfolding(semantics::specs::Listing::row_text, semantics::specs::Text::text))]
 fn put_row(out: &mut [u8], at: usize, i: usize, operation: u64, answer: u64, flagged: bool) -> usize
     ensures { written (record { at = at; out = out.old }) (row_text (width_of flagged) (text_of flagged) i operation answer) ≡ record { at = result; out = out.new } }
 {
