@@ -18,7 +18,7 @@ use Rattle.semantics.specs.declared.Refusal.{Refusal}
 use Rattle.semantics.specs.Words.{size_allowed}
 use Rattle.semantics.specs.Refusals.{most_entries}
 use Rattle.semantics.specs.Records.{fault_at}
-use Rattle.semantics.specs.RunFile.{Layout, layout_of, row, mark_at, size_of, past, next_of, run_file, judged}
+use Rattle.semantics.specs.RunFile.{Layout, layout_of, row, mark_at, size_of, next_of, run_file, judged}
 use Rattle.semantics.specs.RunFile.{conditions_of, conditions_at, mark_cut, mark_wrong, body_cut, body_wrong, one_too_many}
 use Rattle.semantics.proofs.Conditions.{met-here, met-late, alike-number}
 use Rattle.semantics.proofs.Parts.{Agrees, rest-agrees, pair-agrees, total-agrees}

@@ -127,6 +127,7 @@ fn put_cell(
 
 // Whether a lent slice is too short, by the lengths alone: with the file's own refusals behind it, that
 // is why the reader turns a call away, number 0 and place 0 if it does not.
+#[tactic(auto, unfolding(semantics::specs::RunFile::reader_refusal, semantics::specs::RunFile::slice_too_short, semantics::specs::RunFile::file_refusal, semantics::specs::Refusals::first_met))]
 fn refusal_of(
     file: &[u8],
     flagged: bool,
@@ -244,6 +245,7 @@ fn fill(
 // Reads a run file of either width into lent slices for at least 4,096 cells, 64 operations and 16,384
 // entries, and says how many of each it wrote: what the slices hold past those stays. A file that is
 // turned away alters nothing. Checks 4 to 8 are the run's.
+#[tactic(auto, unfolding(semantics::specs::RunFile::reading, semantics::specs::RunFile::refused_reading))]
 pub fn load_either(
     file: &[u8],
     flagged: bool,

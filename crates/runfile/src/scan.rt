@@ -126,6 +126,7 @@ fn first_fault(file: &[u8], flagged: bool) -> Refusal
 }
 
 // Why a file is turned away, whatever is to be done with it; number 0 and place 0 if it is not.
+#[tactic(auto, unfolding(semantics::specs::RunFile::file_refusal, semantics::specs::RunFile::file_conditions, semantics::specs::RunFile::file_too_long, semantics::specs::Refusals::first_met))]
 pub fn file_refusal(file: &[u8], flagged: bool) -> Refusal
     ensures { result ≡ file_refusal (layout_of flagged) file.now }
 {
