@@ -1,5 +1,5 @@
 """What the tools of this folder read of a tree: its crates, the functions of their code, the declarations of their definitions and
-proofs, and their must-fail edits. Code and proofs are read by their layout, which is that of `rt fmt`."""
+proofs, and their must-fail edits. Code and proofs are read by their layout, which is that of `rt fmt`: an attribute is one line."""
 
 import re
 import sys
@@ -7,12 +7,13 @@ from pathlib import Path
 
 
 def crates(root):
-    """The crates of crates.txt in its order, each with those of the repository that it depends on."""
+    """The crates of crates.txt in its order, each with those of the repository that it depends on. Behind a name may stand what else
+    it is, as in `NAME staticlib:`."""
     needs = {}
     for line in (root / "crates.txt").read_text().splitlines():
         name, colon, rest = line.partition("#")[0].partition(":")
         if colon:
-            needs[name.strip()] = rest.split()
+            needs[name.split()[0]] = rest.split()
     return {name: [need for need in rest if need in needs] for name, rest in needs.items()}
 
 
@@ -74,7 +75,7 @@ def functions_in(crate, module, text):
             last += 1
         comment = comment_above(lines, number, "//")
         between = lines[found[-1].last + 1 : number] if found else ["none"]
-        if not comment and not "".join(between).strip():
+        if not comment and not "".join(line for line in between if not line.lstrip().startswith("#[")).strip():
             comment = found[-1].comment  # one comment above a group of functions serves them all
         found.append(Function(crate, module, name, public == "pub ", comment, number, last, lines))
         number = last + 1
@@ -102,8 +103,9 @@ class Code:
                 function.offered = True  # the program itself
 
     def what_it_is(self, module=""):
-        """The first paragraph of the comment at the top of a module's file; without a name, of the crate's."""
-        lines = self.files[module].splitlines()
+        """The first paragraph of the comment at the top of a module's file; without a name, of the crate's. Attributes of the whole
+        file may stand before it or behind it."""
+        lines = re.sub(r"^#!\[.*\n", "", self.files[module], flags=re.M).strip().splitlines() + [""]
         end = next(i for i, line in enumerate(lines) if not line.startswith("//") or line == "//")
         return comment_above(lines, end, "//")
 
@@ -142,16 +144,17 @@ def used(text, before=""):
 
 def definitions_named(text, source):
     """The definitions that a contract names, of those that the lines `ghost use` of its file bring in from files of specs: each as
-    the pages cite it, FILE.NAME of the crate semantics and CRATE/specs/FILE.NAME of another. Types of the code are left out."""
+    the pages cite it, FILE.NAME of the crate semantics and CRATE/specs/FILE.NAME of another. Types of the code are left out, and what
+    is the toolchain's standard library."""
     files = {}
-    for crate, file, names in re.findall(r"^ghost use Rattle·([a-z_0-9]+)(?:·specs)?\.specs\.([\w.-]+)\.\{([^}]*)\};", source, re.M):
-        if not file.startswith("declared."):
+    for crate, file, names in re.findall(r"^ghost use Rattle\.([a-z_0-9]+)\.specs\.([\w.-]+)\.\{([^}]*)\};", source, re.M):
+        if crate != "std" and not file.startswith("declared."):
             for name in names.split(","):
                 name, _, here = name.strip().partition(" as ")
                 cited = file.replace(".", "/") + "." + name
                 files[here or name] = cited if crate == "semantics" else f"{crate}/specs/{cited}"
     clauses = " ".join(re.split(r"^ *(?=ensures|requires)", text, flags=re.M)[1:])
-    words = re.findall(r"[^\s(){}\[\];,⌜⌝]+(?:\s*=(?=\s))?", clauses)
+    words = re.findall(r"[^\s(){}\[\];,]+(?:\s*=(?=\s))?", clauses)
     named = [files[word] for word in words if word in files]  # a field that is given a value is `word =`, and no definition
     return list(dict.fromkeys(named))
 
