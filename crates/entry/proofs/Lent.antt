@@ -24,6 +24,7 @@ use Rattle.semantics.proofs.Lent.{lent-size, lent-narrow, lent-wide}
 use Rattle.semantics.proofs.Over.{over_none, over-length, over-next}
 use Rattle.semantics.proofs.Narrow.{total-small}
 use Rattle.semantics.proofs.Words.{Packs}
+use Rattle.semantics.proofs.Widths.{amount-there}
 use Rattle.rules.specs.declared.effect.Cell.{Cell as CellParts}
 use Rattle.rules.specs.declared.effect.Answer.{Answer as AnswerParts}
 use Rattle.rules.specs.Values.{cell_parts, answer_parts}
@@ -240,3 +241,6 @@ cleared-laid true words n b =
     let none : min n 0 ≡ 0 = omega arith in
     let all : min (n - 0) (length words) ≡ n = omega arith in
     ap₂ (λ (m k : ℕ). record { narrow = over (replicate m 0) []; wide = over (replicate k 0) words }) none all
+
+-- the amount of an operation lies where the total of a cell does
+pub ruleset amounts = (amount-there)

@@ -33,6 +33,7 @@ pub fn clear(answers32: &mut [u32], answers64: &mut [u64], n: usize)
 
 // An operation finishes: its answer is written, and it enters the log behind those that finished before
 // it. Gives the set of finished operations with it.
+#[tactic(auto, unfolding(crate::specs::Lent::with_answer))]
 pub(crate) fn finish(
     answers32: &mut [u32],
     answers64: &mut [u64],

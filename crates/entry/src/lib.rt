@@ -47,6 +47,7 @@ pub fn begin(flagged: bool, c: u32, operations: &[u64]) -> [Record; MOST_OPERATI
 }
 
 // The values of an operation, which is wide or narrow.
+#[tactic(auto, using(crate::proofs::Lent::amounts))]
 fn operation_of(flagged: bool, w: u64) -> Operation
     ensures { result ≡ operation_in (width_of flagged) w }
 {
@@ -70,6 +71,7 @@ fn ceiling_of(flagged: bool) -> u32
 // Whether the step of a record is a pass: it reads within the table, and its cell, which is not the last
 // of c, has another key or is a tombstone. Most steps are, and are told by the keys before anything else
 // is taken apart.
+#[tactic(auto, unfolding(crate::specs::Entry::is_pass))]
 fn is_pass(kind: u8, own: u16, key: u16, c: usize, progress: Record) -> bool
     ensures { result ≡ is_pass kind own key c progress }
 {
@@ -88,9 +90,10 @@ fn is_pass(kind: u8, own: u16, key: u16, c: usize, progress: Record) -> bool
 }
 
 // Stores what a step leaves, if it stores anything.
+#[tactic(auto, unfolding(crate::specs::Entry::stored_by, crate::specs::Lent::with_cell))]
 fn store(narrow: &mut [u32], wide: &mut [u64], at: usize, left: Left)
-    ensures { stored_by (record { narrow = narrow.entry.now; wide = wide.old }) at left
-        ≡ record { narrow = narrow.exit.now; wide = wide.new } }
+    ensures { stored_by (record { narrow = narrow.old; wide = wide.old }) at left
+        ≡ record { narrow = narrow.new; wide = wide.new } }
 {
     if left.stores {
         let cell = left.cell;
@@ -122,10 +125,10 @@ fn step_in(
     w: u64,
     progress: Record,
 ) -> Turned
-    ensures { (result ≡ turned_by (step_at flagged c w progress (record { narrow = narrow.entry.now; wide = wide.old })))
-        × (stored_by (record { narrow = narrow.entry.now; wide = wide.old }) progress.at
-        (step_at flagged c w progress (record { narrow = narrow.entry.now; wide = wide.old })).left
-        ≡ record { narrow = narrow.exit.now; wide = wide.new }) }
+    ensures { (result ≡ turned_by (step_at flagged c w progress (record { narrow = narrow.old; wide = wide.old })))
+        × (stored_by (record { narrow = narrow.old; wide = wide.old }) progress.at
+        (step_at flagged c w progress (record { narrow = narrow.old; wide = wide.old })).left
+        ≡ record { narrow = narrow.new; wide = wide.new }) }
 {
     let at = progress.at;
     if is_pass(
@@ -190,7 +193,7 @@ pub fn take(
 ) -> Taken
     ensures holds { ((records : List Record) → progress ≡ get_or records entry (begun 0)
         → let before : Standing = record {
-          table = record { narrow = narrow.entry.now; wide = wide.old };
+          table = record { narrow = narrow.old; wide = wide.old };
           records = records;
           answers = record { narrow = answers32.old; wide = answers64.old };
           log = log.old;
@@ -198,7 +201,7 @@ pub fn take(
           lost = lost;
         } in
         let after : Standing = record {
-          table = record { narrow = narrow.exit.now; wide = wide.new };
+          table = record { narrow = narrow.new; wide = wide.new };
           records = set records entry result.progress;
           answers = record { narrow = answers32.new; wide = answers64.new };
           log = log.new;

@@ -30,8 +30,9 @@ fn wide_cell(w: u64) -> Cell
 }
 
 // The key of the cell at a place of the table, and the cell.
+#[tactic(auto, unfolding(crate::specs::Lent::cell_at))]
 pub fn load_key(narrow: &[u32], wide: &[u64], at: usize) -> u16
-    ensures { result ≡ (cell_at (record { narrow = narrow.entry.now; wide = wide.now }) at).key }
+    ensures { result ≡ (cell_at (record { narrow = narrow.now; wide = wide.now }) at).key }
 {
     if at < narrow.len() {
         return cell_key(narrow[at]);
@@ -43,8 +44,9 @@ pub fn load_key(narrow: &[u32], wide: &[u64], at: usize) -> u16
     0
 }
 
+#[tactic(auto, unfolding(crate::specs::Lent::cell_at))]
 pub fn load(narrow: &[u32], wide: &[u64], at: usize) -> Cell
-    ensures { result ≡ cell_at (record { narrow = narrow.entry.now; wide = wide.now }) at }
+    ensures { result ≡ cell_at (record { narrow = narrow.now; wide = wide.now }) at }
 {
     if at < narrow.len() {
         return narrow_cell(narrow[at]);
@@ -60,9 +62,10 @@ pub fn load(narrow: &[u32], wide: &[u64], at: usize) -> Cell
 }
 
 // Stores one of two words, by the slice in which a place lies.
+#[tactic(auto, unfolding(crate::specs::Lent::placed))]
 pub fn place(narrow: &mut [u32], wide: &mut [u64], at: usize, thin: u32, fat: u64)
-    ensures { placed (record { narrow = narrow.entry.now; wide = wide.old }) at thin fat
-        ≡ record { narrow = narrow.exit.now; wide = wide.new } }
+    ensures { placed (record { narrow = narrow.old; wide = wide.old }) at thin fat
+        ≡ record { narrow = narrow.new; wide = wide.new } }
 {
     if at < narrow.len() {
         narrow[at] = thin;
