@@ -48,3 +48,5 @@ module _ {wide : Bool} where
 
   pub not_narrow : {A : Type 0} → wide ≡ true → wide ≡ false → A
   not_narrow is other = absurd (let z : ◌≡◌ {A = ℕ} 0 1 = cc in omega arith)
+
+pub ruleset enough = (wide_enough, narrow-enough)

@@ -28,6 +28,7 @@ fn least(a: usize, b: usize) -> usize
 }
 
 // The log's first bytes, one for each operation that finished, a blank before each.
+#[tactic(auto, unfolding(semantics::specs::Text::text))]
 fn put_entries(out: &mut [u8], at: usize, done: usize, log: &[u8]) -> usize
     ensures { written (record { at = at; out = out.old })
         (texts_below (min done (length log.now)) (λ i. text " " ++ decimal (get_or log.now i 0)))
@@ -44,6 +45,7 @@ fn put_entries(out: &mut [u8], at: usize, done: usize, log: &[u8]) -> usize
 }
 
 // The line of the log.
+#[tactic(auto, using(text::proofs::Writing::steps), unfolding(semantics::specs::Listing::log_text, semantics::specs::Text::text, text::specs::Writing::written))]
 fn put_log(out: &mut [u8], at: usize, done: usize, log: &[u8]) -> usize
     ensures { written (record { at = at; out = out.old }) (log_text done log.now) ≡ record { at = result; out = out.new } }
 {
@@ -53,6 +55,7 @@ fn put_log(out: &mut [u8], at: usize, done: usize, log: &[u8]) -> usize
 }
 
 // The lines of a run, or the line of a refusal, from the slice's front on.
+#[tactic(auto, using(text::proofs::Writing::steps), unfolding(semantics::specs::Listing::listing, semantics::specs::Listing::run_text))]
 fn put_listing(
     out: &mut [u8],
     outcome: Outcome,
@@ -80,6 +83,7 @@ fn put_listing(
 // A length that no text of so many operations, log bytes and cells exceeds; where none is known, one
 // that no slice has. None is where the slice of the other width is not empty: its words may have longer
 // keys than those of this one.
+#[tactic(auto, using(crate::proofs::Listed::enough))]
 fn most_bytes(operations: usize, log: usize, cells32: usize, cells64: usize, flagged: bool) -> usize
     ensures { result < last_position → (most_text_of flagged ≤ result) × (operations ≤ most_operations) × (log ≤ most_operations) × (cells32 + cells64 ≤ most_cells) × (flagged ≡ false → cells64 ≡ 0) }
 {
