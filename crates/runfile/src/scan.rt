@@ -107,7 +107,7 @@ fn first_fault(file: &[u8], flagged: bool) -> Refusal
     ensures { result ≡ first_met (record_conditions (run_file (layout_of flagged)) file.now (records (run_file (layout_of flagged)) file.now start)) }
 {
     let mut position = start();
-    loop {
+    'records: loop {
         let judged = judge(file, flagged, position);
         if judged.number != 0 {
             return Refusal {

@@ -7,8 +7,8 @@ use Rattle.semantics.proofs.Marks.{scannable}
 use Rattle.runfile.proofs.Judged.{number-said, next-said}
 use Rattle.runfile.proofs.scan.first_fault.Goals as goal
 
-pub loop-position-init : goal.loop-position-init
-loop-position-init c =
+pub records-init : goal.records-init
+records-init c =
     let L = layout_of c.args.flagged in
     scan-starts (run_file L) c.args.file.now (judgement (run_file L) c.args.file.now) start c.start-position.ensures
 
@@ -16,31 +16,31 @@ pub returns-then-judged-ne0 : goal.returns-then-judged-ne0
 returns-then-judged-ne0 c =
     let L = layout_of c.args.flagged in
     let file = c.args.file.now in
-    judge-faulty (scannable L file) c.loop-position.invariant (number-said L file c.loop-position.position c.judge-judged.ensures) c.if-judged-ne0.true
+    judge-faulty (scannable L file) c.records.invariant (number-said L file c.records.position c.judge-judged.ensures) c.if-judged-ne0.true
 
 pub returns-then-file-position : goal.returns-then-file-position
 returns-then-file-position c =
     let L = layout_of c.args.flagged in
     let file = c.args.file.now in
-    let p = c.loop-position.position in
+    let p = c.records.position in
     let passed = sym (number-said L file p c.judge-judged.ensures) ∙ c.if-judged-ne0.false in
     let onto = next-said L file p c.judge-judged.ensures c.if-judged-ne0.false in
-    judge-ends (scannable L file) passed onto c.loop-position.invariant c.if-file-position.true
+    judge-ends (scannable L file) passed onto c.records.invariant c.if-file-position.true
 
-pub loop-position-smaller : goal.loop-position-smaller
-loop-position-smaller c =
+pub records-smaller : goal.records-smaller
+records-smaller c =
     let L = layout_of c.args.flagged in
     let file = c.args.file.now in
-    let p = c.loop-position.position in
+    let p = c.records.position in
     let passed = sym (number-said L file p c.judge-judged.ensures) ∙ c.if-judged-ne0.false in
     let onto = next-said L file p c.judge-judged.ensures c.if-judged-ne0.false in
     scan-less (scannable L file) passed onto
 
-pub loop-position-preserved : goal.loop-position-preserved
-loop-position-preserved c =
+pub records-preserved : goal.records-preserved
+records-preserved c =
     let L = layout_of c.args.flagged in
     let file = c.args.file.now in
-    let p = c.loop-position.position in
+    let p = c.records.position in
     let passed = sym (number-said L file p c.judge-judged.ensures) ∙ c.if-judged-ne0.false in
     let onto = next-said L file p c.judge-judged.ensures c.if-judged-ne0.false in
-    judge-goes-on (scannable L file) passed onto c.loop-position.invariant c.if-file-position.false
+    judge-goes-on (scannable L file) passed onto c.records.invariant c.if-file-position.false

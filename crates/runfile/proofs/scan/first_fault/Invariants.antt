@@ -6,10 +6,10 @@ use Rattle.semantics.specs.RunFile.{layout_of, start, run_file}
 use Rattle.semantics.proofs.Records.{Left, judgement}
 use Rattle.runfile.proofs.scan.first_fault.Given as goal
 
-abbrev pub invariant-loop-position : goal.invariant-loop-position
-invariant-loop-position l =
+abbrev pub invariant-records : goal.invariant-records
+invariant-records l =
     let L = layout_of l.flagged in
     Left (run_file L) l.file (judgement (run_file L) l.file) (judgement (run_file L) l.file (records (run_file L) l.file start)) l.position
 
-abbrev pub decreases-loop-position : goal.decreases-loop-position
-decreases-loop-position l = length l.file - l.position.at
+abbrev pub decreases-records : goal.decreases-records
+decreases-records l = length l.file - l.position.at
