@@ -41,13 +41,13 @@ fn entries(
     answers64: &mut [u64],
     log: &mut [u8],
 ) -> Outcome
-    requires { Ready flagged (record { narrow = narrow.now; wide = wide.old }) operations.now schedule.now
+    requires { Ready flagged (record { narrow = narrow.old; wide = wide.old }) operations.now schedule.now
         (record { narrow = answers32.old; wide = answers64.old }) log.old }
-    ensures { run_result (width_of flagged) (words_in flagged (record { narrow = narrow.entry.now; wide = wide.old })) operations.now
+    ensures { run_result (width_of flagged) (words_in flagged (record { narrow = narrow.old; wide = wide.old })) operations.now
         schedule.now (words_in flagged (record { narrow = answers32.old; wide = answers64.old })) log.old
         ≡ record {
           outcome = result;
-          cells = words_in flagged (record { narrow = narrow.exit.now; wide = wide.new });
+          cells = words_in flagged (record { narrow = narrow.new; wide = wide.new });
           answers = words_in flagged (record { narrow = answers32.new; wide = answers64.new });
           log = log.new;
         } }
