@@ -17,6 +17,7 @@ use semantics::{Loaded, Outcome};
 
 // The home of a key in c cells, or 65,535 where c or the key is not allowed.
 // Both are judged first, so the key is 1 to 65,534 and has sixteen bits.
+#[tactic(auto, unfolding(semantics::specs::Narrow::room_home, semantics::specs::Words::is_live_key))]
 #[unsafe(no_mangle)]
 pub extern "C" fn room_home(key: u32, c: u32) -> u32
     ensures { result ≡ room_home key c }
@@ -33,6 +34,7 @@ pub extern "C" fn room_home(key: u32, c: u32) -> u32
 
 // The sum of two totals, or 65,535 (document 01's pinned) where it is larger; and 65,536 more where the
 // first was true and the sum is pinned.
+#[tactic(auto, unfolding(semantics::specs::Narrow::room_sum, semantics::specs::Totals::plus_at, semantics::specs::Totals::held_at))]
 #[unsafe(no_mangle)]
 pub extern "C" fn room_sum(a: u16, b: u16) -> u32
     ensures { result ≡ room_sum a b }
