@@ -7,14 +7,12 @@ use mathlib.Core.List.{List, []}
 use mathlib.Core.Option.{some, none}
 use native.Mathlib.Nat.{zero-add, add_assoc}
 use native.Mathlib.Omega.{arith}
-use lib.Dec.{eqb}
 use lib.ListN.{length, take, drop, length-drop}
 use lib.Seq.{length-take-le, get_or-take, get_or-drop, ext_get_or}
 use Rattle.semantics.specs.declared.Mark.{Mark}
 use Rattle.semantics.specs.declared.Position.{Position}
-use Rattle.semantics.specs.Narrow.{narrow}
 use Rattle.semantics.specs.Records.{fault_at}
-use Rattle.semantics.specs.RunFile.{Layout, layout_of, row, byte_at, pair_at, mark_at, size_of, past, next_of, run_file}
+use Rattle.semantics.specs.RunFile.{Layout, layout_of, row, byte_at, mark_at, size_of, past, next_of, run_file}
 use Rattle.semantics.specs.Convert.{head_of, record_of, record_at, bytes_of, target}
 use Rattle.semantics.proofs.Marks.{Sound, sound, is_known}
 use Rattle.semantics.proofs.Convert.{part_of, parts}

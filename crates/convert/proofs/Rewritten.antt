@@ -1,7 +1,7 @@
 -- What the conversion writes of one record: its mark, its body and its total, each over the front of what is lent; and how long that is.
 -- Assumes nothing.
 use mathlib.Core.Path.{◌≡◌, refl, sym, ap, ap₂, subst, ◌∙◌}
-use Prim.Native.Nat.{ℕ, ◌+◌, ◌-◌, ◌*◌, ◌/◌, ◌%◌, ◌≤◌, ◌<◌}
+use Prim.Native.Nat.{ℕ, ◌+◌, ◌-◌, ◌/◌, ◌%◌, ◌≤◌, ◌<◌}
 use mathlib.Core.Bool.{Bool, true, false, cond, not, ◌&&◌, true≢false}
 use mathlib.Core.List.{List, [], ◌∷◌, ◌++◌, append-nil, append_assoc}
 use mathlib.Core.Option.{none, some}
@@ -15,9 +15,8 @@ use Rattle.semantics.specs.declared.Mark.{Mark}
 use Rattle.semantics.specs.declared.Mark.TheVariants.{Table, Cell, Operation, Schedule, Unknown}
 use Rattle.semantics.specs.declared.Total.{Total}
 use Rattle.semantics.specs.declared.Written.{Written}
-use Rattle.semantics.specs.Narrow.{narrow}
 use Rattle.semantics.specs.Run.{over}
-use Rattle.semantics.specs.RunFile.{layout_of, row, byte_at, pair_at, size_of}
+use Rattle.semantics.specs.RunFile.{layout_of, row, byte_at, size_of}
 use Rattle.semantics.specs.Convert.{FileRecord, source, target, record_of, total_bytes_of, bytes_of, is_unfit, is_unfit_in}
 use Rattle.semantics.proofs.Convert.{take_next, part_of, holds_same, letters-two, total-long}
 use Rattle.semantics.proofs.Over.{over-more}
@@ -314,3 +313,19 @@ module _ (flagged : Bool) (bytes : List ℕ) where
         → record { number = s.number; place = s.place; length = n } ≡ weighed flagged bytes at s
     weighed-later at s is long known =
         weighed-by at s false is long (ap (λ b. b && is_unfit_in flagged (lone flagged bytes).total) (ne_eqb s.number 0 known))
+
+-- the same of a record whose refusal is known before, as the search reads it: the length is told by the parts that code computes
+pub weighed-late : (flagged : Bool) (bytes : List ℕ) (at : ℕ) (s : Written) → (s.number ≡ 0 → ⊥)
+    → weighed flagged bytes at s ≡ record { number = s.number; place = s.place; length = s.length + length (rewritten flagged bytes) }
+unfolding weighed
+weighed-late flagged bytes at s known = rw (ne_eqb s.number 0 known) refl
+
+pub length-rewritten : (flagged : Bool) (bytes : List ℕ) → Whole flagged bytes
+    → length (rewritten flagged bytes)
+    ≡ length bytes - part_total (layout_of flagged) (row (layout_of flagged) (mark_of flagged bytes)).part
+    + part_total (layout_of (not flagged)) (row (layout_of flagged) (mark_of flagged bytes)).part
+length-rewritten flagged bytes w =
+    let m = mark_of flagged bytes in
+    omega (arith, rewritten-long flagged bytes w, part-of-part flagged flagged m, part-of-part flagged (not flagged) m)
+
+pub ruleset late = (weighed-late, length-rewritten)

@@ -12,12 +12,20 @@ ghost use Rattle.semantics.specs.RunFile.{layout_of, row, longest_file};
 ghost use Rattle.semantics.specs.Convert.{is_unfit, converted, conversion_refusal, conversion, conversion_text, Faithful};
 ghost use Rattle.convert.specs.Weighed.{mark_of, Whole, Plain, part_total, head_size, weighed, rewritten, limited_to};
 
-use bytes::copy;
 use lines::counts::put_refusal;
 use packing::low_8;
 use record::fields::{mark_at, total_in, total_size};
 use runfile::scan::{judge, start};
 use semantics::{MOST_BYTES, Mark, Total, Written};
+
+// A slice's bytes, over the front of another that is no shorter.
+#[tactic(auto, unfolding(semantics::specs::Run::over))]
+fn copy(from: &[u8], to: &mut [u8])
+    requires { length from.now ≤ length to.old }
+    ensures { to.new ≡ over from.now to.old }
+{
+    to[..from.len()].copy_from_slice(from);
+}
 
 // How many bytes at the end of a record are a total or an amount, by its part of the file: those of cells
 // and operations have one.
@@ -34,6 +42,7 @@ fn total_part(part: usize, flagged: bool) -> usize
 }
 
 // 13: going down, a total or an amount that no narrow file has.
+#[tactic(auto, unfolding(semantics::specs::Convert::is_unfit))]
 fn is_unfit(total: Total, flagged: bool) -> bool
     ensures { result ≡ is_unfit flagged total }
 {
@@ -48,6 +57,7 @@ fn is_unfit(total: Total, flagged: bool) -> bool
 
 // What a record adds to what is known of the result: its length, and the first record that has no place in
 // it. The record is lent by itself, and stands at an offset of its file.
+#[tactic(auto, using(crate::proofs::Rewritten::late))]
 fn weigh(bytes: &[u8], flagged: bool, part: usize, at: usize, known: Written) -> Written
     requires { Whole flagged bytes.now × (part ≡ (row (layout_of flagged) (mark_of flagged bytes.now)).part) × (known.length ≤ 3 * longest_file) }
     ensures { result ≡ weighed flagged bytes.now at known }
@@ -73,6 +83,7 @@ fn weigh(bytes: &[u8], flagged: bool, part: usize, at: usize, known: Written) ->
 }
 
 // 22, where nothing came before it: a result that is too long for a file.
+#[tactic(auto, unfolding(crate::specs::Weighed::limited_to))]
 fn limited(found: Written) -> Written
     ensures { result ≡ limited_to longest_file found }
 {
@@ -127,6 +138,7 @@ fn measure(file: &[u8], flagged: bool) -> Written
 }
 
 // The letters of a mark, over the front of a slice. The table's are the ones that tell the widths apart.
+#[tactic(auto, unfolding(semantics::specs::Run::over, semantics::specs::Text::text))]
 fn put_mark(out: &mut [u8], mark: Mark, flagged: bool)
     requires { 2 ≤ length out.old }
     ensures { out.new ≡ over (row (layout_of flagged) mark).letters out.old }
