@@ -49,6 +49,7 @@ fn run_and_list(
 }
 
 // Writes the line of a refusal, which is the same in every width and needs nothing of the run.
+#[tactic(auto, unfolding(semantics::specs::Listing::listing))]
 fn refuse(number: u32, place: usize, out: &mut [u8]) -> Written
     requires { number ≡ 0 → ⊥ }
     ensures { handed (refusal_text number place) out.old ≡ record { written = result; out = out.new } }
