@@ -174,9 +174,9 @@ pub struct Taken {
 // finished, in a word and with its record, and takes one step of it in a table of c cells; where that finishes
 // it, its answer and its place in the log are written at once.
 //
-// All records of a run are not lent: a reference to their array would make the run's loop a proof by hand,
-// and by value the array is copied at every entry. Lost swaps come as 32 bits and go as 64, so that one more
-// always fits.
+// All records of a run are not lent: when this was written, a reference to their array made the run's loop a
+// proof by hand, and by value the array is copied at every entry. Lost swaps come as 32 bits and go as 64, so
+// that one more always fits.
 pub fn take(
     flagged: bool,
     narrow: &mut [u32],

@@ -214,8 +214,8 @@ pub fn advance(
 }
 
 // One step of a record by value: a local record is lent to the step and handed back. The run goes
-// through here, so that the step over a lent record is the one that is taken; an element of its array of
-// records could be lent only in a proof by hand.
+// through here, so that the step over a lent record is the one that is taken; when this was written, an
+// element of its array of records could be lent only in a proof by hand.
 pub fn take_step(
     cell: Cell,
     ceiling: u32,
