@@ -90,6 +90,25 @@ module _ (flagged : Bool) (file : List ℕ) (p : Position) where
     pub judged-faulty : (n ≡ 0 → ⊥) → record { number = n; next = p } ≡ judged L file p
     judged-faulty z = sym (judged-by (ne_eqb n 0 z))
 
+-- the same as equations, each of which says on its left what it is about, so that a search finds it: a record whose mark is cut, what the bytes
+-- from a record on say of it, and a record that is passed and one that is not
+module _ (flagged : Bool) (file : List ℕ) (p : Position) where
+  pub cut_judged : length file < p.at + 2 → judged (layout_of flagged) file p ≡ record { number = 10; next = p }
+  cut_judged h = sym (judged-faulty flagged file p (mark-is-cut flagged file p h) (λ e. omega (arith, e)))
+
+  pub rest_judged : (m : Mark) → p.at + 2 ≤ length file → m ≡ mark_at (layout_of flagged) file p.at
+      → fault_of (layout_of flagged) (take (length file - p.at) (drop p.at file)) p m ≡ fault_at (run_file (layout_of flagged)) file p
+  rest_judged m whole is = fault-by-rest flagged file p whole is refl
+
+  pub sound_judged : fault_at (run_file (layout_of flagged)) file p ≡ 0 → judged (layout_of flagged) file p ≡ record { number = 0; next = next_of (layout_of flagged) file p }
+  sound_judged z = sym (judged-passed flagged file p refl z refl)
+
+  pub faulty_judged : (fault_at (run_file (layout_of flagged)) file p ≡ 0 → ⊥)
+      → judged (layout_of flagged) file p ≡ record { number = fault_at (run_file (layout_of flagged)) file p; next = p }
+  faulty_judged z = sym (judged-faulty flagged file p refl z)
+
+pub ruleset judging = (cut_judged, rest_judged, sound_judged, faulty_judged)
+
 -- what the scan says of a record: why it is turned away, and the position past it if it is not
 module _ (L : Layout) (file : List ℕ) (p : Position) {j : Judged} (is : j ≡ judged L file p) where
   pub number-said : j.number ≡ fault_at (run_file L) file p

@@ -70,6 +70,7 @@ pub(crate) fn past(file: &[u8], flagged: bool, mark: Mark, position: Position) -
 }
 
 // What the scan makes of the record at a position, whatever the position.
+#[tactic(auto, using(crate::proofs::Judged::judging))]
 pub fn judge(file: &[u8], flagged: bool, position: Position) -> Judged
     ensures { result ≡ judged (layout_of flagged) file.now position }
 {
