@@ -35,6 +35,7 @@ fn respond(file: &[u8], text: &mut [u8]) -> usize
     written.length
 }
 
+#[tactic(auto, unfolding(semantics::specs::Widths::most_text_of))]
 fn main() {
     let mut file = [0u8; MOST_BYTES + 1];
     let n = read_file(&mut file);

@@ -1,26 +1,12 @@
--- `roomrun::respond` meets its contract: a text that is not refused was handed over whole.
+-- A text that is not refused was handed over whole.
 -- Assumes nothing.
-use mathlib.Core.Path.{◌≡◌, sym, ap, ◌∙◌}
-use Prim.Native.Nat.{ℕ}
-use mathlib.Core.Bool.{Bool, true, false, cond}
-use mathlib.Core.List.{List}
-use native.Mathlib.Omega.{arith}
+use Rattle.std.proofs.Common.{◌≡◌, ℕ, Bool, true, false, cond, List, length, sym, ap, ◌∙◌, arith}
 use lib.Dec.{leb}
-use lib.ListN.{length}
-use borrow.Author.Rules.{rules}
 use Rattle.semantics.specs.Run.{over}
 use Rattle.semantics.specs.Text.{Handed, handed}
 use Rattle.semantics.specs.Response.{is_wide}
 use Rattle.semantics.proofs.Widths.{most-wide}
-use Rattle.roomrun.proofs.respond.Statement.{statement}
-use Rattle.roomrun.proofs.respond.Tie as tie
-
--- the contexts that the facts look back to
-abbrev start-of-report : tie.After-report → tie.Start
-start-of-report c = c.before.before.before.before
-
-abbrev after-report : tie.After-slice-known2 → tie.After-report
-after-report c = c.before.before
+use Rattle.roomrun.proofs.respond.Goals as goal
 
 -- what is handed over of a text that fits, and of one that does not
 abbrev over-front : List ℕ → List ℕ → Handed
@@ -37,18 +23,6 @@ whole bytes out {h} = go (leb (length bytes) (length out))
     go true e none = (sym (ap (λ (x : Handed). x.written.length) e), sym (ap (λ (x : Handed). x.out) e))
     go false e none = absurd (let three : 3 ≡ 0 = ap (λ (x : Handed). x.written.number) e ∙ none in omega (arith, three))
 
-report-requires : tie.Need-report-requires
-report-requires c κs = search rules
-
-same_length : tie.Need-same-length
-same_length c = search rules
-
-returns : tie.Need-returns
-returns c =
-    let report = after-report c in
-    let start = start-of-report report in
-    let said = report.report.ensures in
-    (whole _ _ said.0 (said.1.0 (omega (arith, start.pre, most-wide (is_wide start.args.file.now)))), said.1.1)
-
-pub respond-spec : {M : Type 1} → statement M
-respond-spec = tie.close (tie.spec report-requires same_length returns)
+pub returns-clause-whole : goal.returns-clause-whole
+returns-clause-whole c =
+    whole _ _ c.report-written.ensures.result (c.report-written.ensures.suffices (omega (arith, c.requires, most-wide (is_wide c.args.file.now))))
