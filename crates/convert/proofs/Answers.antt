@@ -1,12 +1,12 @@
 -- What a conversion answers: a refusal, a slice that is too short, or the result; and what a program writes of it.
 -- Assumes nothing.
 use mathlib.Core.Path.{◌≡◌, refl, sym, ap, subst, ◌∙◌}
-use Prim.Native.Nat.{ℕ, ◌≤◌, ◌<◌}
+use Prim.Native.Nat.{ℕ, ◌^◌, ◌≤◌, ◌<◌}
 use mathlib.Core.Bool.{Bool, true, cond}
 use mathlib.Core.List.{List}
 use native.Mathlib.Decide.{ℕ_discrete, dec_le}
 use native.Mathlib.Omega.{arith}
-use lib.ListN.{length}
+use lib.ListN.{length, get_or}
 use lib.Seq.{length-take-le}
 use borrow.Author.Tests.{eq-eqb, ne_eqb, le-leb, lt-leb}
 use Rattle.semantics.specs.declared.Refusal.{Refusal}
@@ -14,9 +14,9 @@ use Rattle.semantics.specs.declared.Written.{Written}
 use Rattle.semantics.specs.Run.{over}
 use Rattle.semantics.specs.Text.{Handed, handed}
 use Rattle.semantics.specs.Listing.{refusal_text}
-use Rattle.semantics.specs.Convert.{converted, conversion_refusal, conversion_if, conversion, conversion_text}
+use Rattle.semantics.specs.Convert.{converted, conversion_refusal, conversion_if, conversion, conversion_text, Faithful}
 use Rattle.semantics.proofs.Over.{over-length}
-use Rattle.semantics.proofs.Faithful.{accepted-parts}
+use Rattle.semantics.proofs.Faithful.{accepted-parts, faithful}
 use Rattle.semantics.proofs.Lengths.{refusal}
 use Rattle.io.specs.Counts.{IsPrefixLen}
 use Rattle.text.specs.Writing.{written}
@@ -59,6 +59,11 @@ module _ (flagged : Bool) (file out : List ℕ) where
     answers-whole is h put =
         hands ∙ handed-fits result out (omega arith)
         ∙ (λ i. record { written = record { number = 0; place = 0; length = sym is i }; out = sym put i })
+
+  -- the same as the search reads it
+  pub answers-too-short : why.number ≡ 0 → length out < length result
+      → conversion flagged file out ≡ record { written = record { number = 3; place = 0; length = 0 }; out = out }
+  answers-too-short ok h = answers-short ok refl h
 
   -- the slice is as long as it was
   pub answer-long : {r : Written} {left : List ℕ} → conversion flagged file out ≡ record { written = r; out = left } → length left ≡ length out
@@ -127,3 +132,10 @@ text-fits flagged file = elim (ℕ_discrete (conversion_refusal flagged file).nu
   | no not ↦ subst (λ b. length (cond b (converted flagged file) (refusal_text (conversion_refusal flagged file).number (conversion_refusal flagged file).place)) ≤ 65535)
       (sym (ne_eqb (conversion_refusal flagged file).number 0 not)) (omega (arith, refusal (conversion_refusal flagged file).number (conversion_refusal flagged file).place))
 ]
+
+-- what is promised of a file that is converted, as the search reads it
+pub faithful-of : (flagged : Bool) (file : List ℕ) → ((i : ℕ) → get_or file i 0 < 2 ^ 8) → (conversion_refusal flagged file).number ≡ 0
+    → (conversion_refusal flagged file ≡ conversion_refusal flagged file) × Faithful flagged file
+faithful-of flagged file small ok = (refl, faithful flagged file (record { below = λ i. omega (arith, small i) }) ok)
+
+pub ruleset answered = (answers-too-short, faithful-of)

@@ -300,6 +300,7 @@ fn put_file(file: &[u8], flagged: bool, out: &mut [u8])
 }
 
 // Judges and measures a file, and then writes it; in either direction.
+#[tactic(auto, using(crate::proofs::Answers::answered))]
 fn convert(file: &[u8], flagged: bool, out: &mut [u8]) -> Written
     ensures out_value { conversion flagged file.now out.old ≡ record { written = result; out = out.new } }
     ensures faithful { (conversion_refusal flagged file.now).number ≡ 0 → Faithful flagged file.now }

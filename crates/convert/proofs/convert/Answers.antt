@@ -3,8 +3,8 @@ use Rattle.std.proofs.Common.{◌≡◌, ℕ, Bool, List, subst, ap, ◌∙◌, 
 use Rattle.semantics.specs.declared.Refusal.{Refusal}
 use Rattle.semantics.specs.Convert.{conversion_refusal}
 use Rattle.semantics.proofs.Convert.{Bytes}
-use Rattle.semantics.proofs.Faithful.{faithful, never-22}
-use Rattle.convert.proofs.Answers.{answers-refusal, answers-short, answers-whole}
+use Rattle.semantics.proofs.Faithful.{never-22}
+use Rattle.convert.proofs.Answers.{answers-refusal, answers-whole}
 use Rattle.convert.proofs.convert.Goals as goal
 
 -- a file that is measured with number 0 is accepted
@@ -12,28 +12,12 @@ accepted : (flagged : Bool) (file : List ℕ) {n place : ℕ} → conversion_ref
     → (conversion_refusal flagged file).number ≡ 0
 accepted flagged file e z = ap (λ (r : Refusal). r.number) e ∙ z
 
-pub returns-then-out-length-clause-out_value : goal.returns-then-out-length-clause-out_value
-returns-then-out-length-clause-out_value c =
-    let a = c.args in
-    let m = c.measure-found.ensures in
-    answers-short a.flagged a.file.now a.out.now (accepted a.flagged a.file.now m.file_value c.if-found-eq0.true) (m.length_value c.if-found-eq0.true) c.if-out-length.true
-
-pub returns-then-out-length-clause-faithful : goal.returns-then-out-length-clause-faithful
-returns-then-out-length-clause-faithful c =
-    let bytes : Bytes c.args.file.now = record { below = λ i. omega (arith, c.type_inv.file i) } in
-    λ ok. faithful c.args.flagged c.args.file.now bytes ok
-
 pub returns-then-found-eq0-clause-out_value : goal.returns-then-found-eq0-clause-out_value
 returns-then-found-eq0-clause-out_value c =
     let a = c.args in
     let m = c.measure-found.ensures in
-    answers-whole a.flagged a.file.now a.out.now (accepted a.flagged a.file.now m.file_value c.if-found-eq0.true) (m.length_value c.if-found-eq0.true) c.if-out-length.false
+    answers-whole a.flagged a.file.now a.out.now (accepted a.flagged a.file.now m.file_value c.if-found-eq0.true) (m.length_value c.if-found-eq0.true) (omega arith)
     c.put_file.ensures
-
-pub returns-then-found-eq0-clause-faithful : goal.returns-then-found-eq0-clause-faithful
-returns-then-found-eq0-clause-faithful c =
-    let bytes : Bytes c.args.file.now = record { below = λ i. omega (arith, c.type_inv.file i) } in
-    λ ok. faithful c.args.flagged c.args.file.now bytes ok
 
 pub returns-clause-out_value : goal.returns-clause-out_value
 returns-clause-out_value c =
