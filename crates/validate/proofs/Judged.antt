@@ -67,3 +67,16 @@ module _ (flagged : Bool) (narrow wide : List ℕ) (alone : of_width (not flagge
 
 -- how many keys two lent slices have, or whatever else is read of their words
 pub ruleset sizes = (keys-size, lent-size)
+
+-- a condition of the slices that is met decides: the same as the search reads it
+pub of_slices : (flagged : Bool) (narrow wide : List ℕ) → of_width (not flagged) narrow wide ≡ [] → (operations schedule : List ℕ) (answers log : ℕ)
+    → ((first_met (slices_conditions (call_of (narrow ++ wide) operations schedule answers log))).number ≡ 0 → ⊥)
+    → (first_met (slices_conditions (call_of (narrow ++ wide) operations schedule answers log))).place ≡ 0
+    → run_refusal (width_of flagged) (call_of (of_width flagged narrow wide) operations schedule answers log) ≡ first_met (slices_conditions (call_of (narrow ++ wide) operations schedule answers log))
+of_slices flagged narrow wide alone operations schedule answers log h e =
+    let told : Refusal = first_met (slices_conditions (call_of (narrow ++ wide) operations schedule answers log)) in
+    let at_place : ℕ → Refusal = λ p. record { number = told.number; place = p } in
+    let judged : told ≡ at_place 0 = ap at_place e in
+    sym (by-slices flagged narrow wide alone operations schedule answers log judged h) ∙ sym judged
+
+pub ruleset deciding = (of_slices, by-words, by-table)

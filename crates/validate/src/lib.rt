@@ -45,6 +45,7 @@ fn slices_number(
 }
 
 // The refusals of a table whose words are all of one width.
+#[tactic(auto, using(crate::proofs::Judged::deciding))]
 fn judge(
     flagged: bool,
     narrow: &[u32],
