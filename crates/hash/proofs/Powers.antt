@@ -1,6 +1,7 @@
 -- Powers of two, told by the ones and the trailing zeros of a number, and as numbers of cells.
 -- Assumes nothing.
 use mathlib.Core.Path.{◌≡◌, refl, sym, ap, subst, ◌∙◌}
+use mathlib.Core.Bool.{false, not-eq-not}
 use Prim.Native.Nat.{ℕ, zero, suc, ◌+◌, ◌-◌, ◌*◌, ◌/◌, ◌%◌, ◌^◌, ◌<◌, zero-le}
 use native.Mathlib.Nat.{zero-add, add-zero, add-suc, suc-add, mul_comm, mul-div_cancel, mul-div-mul_right, pow-suc}
 use native.Mathlib.Omega.{arith}
@@ -9,6 +10,7 @@ use lib.Pow.{pow-add, pow_pos, pow-lt}
 use lib.Count.{ones, count_trailing_zeros, under, ones_step, ones_cat, ones-le}
 use borrow.Author.Tests.{eq-eqb, ne_eqb, lt-ltb, le-ltb}
 use Rattle.semantics.specs.Words.{is_power_from, size_allowed, hash_of, home_in, scaled_home}
+use Rattle.semantics.proofs.Booleans.{true-T}
 use Rattle.semantics.proofs.Sizes.{allowed-power}
 
 -- a power has one bit set
@@ -45,6 +47,15 @@ at-power k (suc n) (suc d) =
 pub power-allowed : (t : ℕ) → size_allowed (2 ^ t) ≡ ltb t 13
 unfolding size_allowed
 power-allowed t = ap (λ n. is_power_from 0 13 (2 ^ n)) (sym (zero-add t)) ∙ at-power 0 13 t
+
+-- a number is an allowed size by its one bit and the zeros below it: the same as the search reads it
+pub allowed-by_zeros : (c : ℕ) → c < 2 ^ 64 → ones c ≡ 1 → size_allowed c ≡ ltb (count_trailing_zeros 64 c) 13
+allowed-by_zeros c small one = ap size_allowed (one_bit 64 c small one) ∙ power-allowed (count_trailing_zeros 64 c)
+
+pub allowed-one_bit : (c : ℕ) → (ones c ≡ 1 → ⊥) → size_allowed c ≡ false
+allowed-one_bit c more = not-eq-not.0 (λ e. more (let p = allowed-power _ (true-T _ e) in ap ones p.is ∙ ones-pow _))
+
+pub ruleset sizes = (allowed-by_zeros, allowed-one_bit)
 
 -- sixteen bits scaled to 2 ^ j are shared out over as many cells
 scaled : (j r x : ℕ) → j + r ≡ 16 → x * 2 ^ j / 65536 ≡ x / (65536 / 2 ^ j)

@@ -7,6 +7,7 @@ ghost use Rattle.semantics.specs.Words.{size_allowed, home_in, scaled_home};
 
 // Whether a table may have c cells: a power of two from 2^0 to 2^12. One bit of c is set, and the
 // zeros below that bit are as many as the exponent.
+#[tactic(auto, using(crate::proofs::Powers::sizes))]
 pub fn size_allowed(c: usize) -> bool
     ensures { result ≡ size_allowed c }
 {
