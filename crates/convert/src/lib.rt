@@ -19,12 +19,15 @@ use runfile::scan::{judge, start};
 use semantics::{MOST_BYTES, Mark, Total, Written};
 
 // A slice's bytes, over the front of another that is no shorter.
-#[tactic(auto, unfolding(semantics::specs::Run::over))]
 fn copy(from: &[u8], to: &mut [u8])
     requires { length from.now ≤ length to.old }
     ensures { to.new ≡ over from.now to.old }
 {
-    to[..from.len()].copy_from_slice(from);
+    let mut i = 0;
+    while i < from.len() {
+        to[i] = from[i];
+        i = i + 1;
+    }
 }
 
 // How many bytes at the end of a record are a total or an amount, by its part of the file: those of cells
