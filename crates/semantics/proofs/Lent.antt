@@ -1,13 +1,11 @@
 -- A table lent as two slices: how many cells it has, and what stands at each.
 -- Assumes nothing.
 use mathlib.Core.Path.{◌≡◌, refl, sym, ap, ap₂, ◌∙◌}
-use Prim.Native.Nat.{ℕ, zero, suc, ◌+◌, ◌-◌, ◌≤◌, ◌<◌}
+use Prim.Native.Nat.{ℕ, ◌+◌}
 use mathlib.Core.Bool.{Bool, true, false, not}
-use mathlib.Core.List.{List, [], ◌∷◌, ◌++◌, map, append-nil}
-use native.Mathlib.Omega.{arith}
+use mathlib.Core.List.{List, [], ◌∷◌, map, append-nil}
 use lib.Dec.{leb}
-use lib.ListN.{length, get_or, length-append, length-map, get_or-append, get_or-map}
-use lib.Seq.{get_or-append-add}
+use lib.ListN.{length, get_or, length-append, length-map, get_or-map}
 use Rattle.semantics.specs.Words.{Width, is_live_key}
 use Rattle.semantics.specs.Narrow.{key_of, tombstone_word, cell_allowed, narrow_width}
 use Rattle.semantics.specs.Wide.{wide_key_of, is_wide_total, is_nothing, wide_cell_allowed, wide_width}
@@ -15,25 +13,9 @@ use Rattle.semantics.specs.Widths.{width_of, of_width}
 use Rattle.semantics.specs.Refusals.{call_of, at_first, bad_cell, bad_operation, bad_entry, words_conditions}
 use Rattle.semantics.specs.Lent.{lent, table_keys, cells_allowed, operation_allowed_in, lent_words, lent_table}
 
-mapped : {A : Type 0} (f : ℕ → A) (l : List ℕ) (i : ℕ) (d : A) → i < length l → get_or (map f l) i d ≡ f (get_or l i 0)
-mapped f [] i d b = absurd (omega arith)
-mapped f (x ∷ l) zero d b = refl
-mapped f (x ∷ l) (suc i) d b = mapped f l i d (omega arith)
-
 module _ {A : Type 0} (f g : ℕ → A) (narrow wide : List ℕ) where
   pub lent-size : length narrow + length wide ≡ length (lent f g narrow wide)
   lent-size = sym (length-append (map f narrow) (map g wide) ∙ ap₂ ◌+◌ (length-map narrow f) (length-map wide g))
-
-  pub lent-narrow : (i : ℕ) (d : A) → i < length narrow → get_or (lent f g narrow wide) i d ≡ f (get_or narrow i 0)
-  lent-narrow i d b = get_or-append (map f narrow) (map g wide) d i (omega (arith, length-map narrow f)) ∙ mapped f narrow i d b
-
-  pub lent-wide : (i : ℕ) (d : A) → length narrow ≤ i → i - length narrow < length wide
-      → get_or (lent f g narrow wide) i d ≡ g (get_or wide (i - length narrow) 0)
-  lent-wide i d b h =
-      let at : i ≡ length (map f narrow) + (i - length narrow) = omega (arith, length-map narrow f) in
-      ap (λ (n : ℕ). get_or (lent f g narrow wide) n d) at
-      ∙ get_or-append-add (map f narrow) (map g wide) (i - length narrow) d
-      ∙ mapped g wide (i - length narrow) d h
 
 pub keys-size : (narrow wide : List ℕ) → length narrow + length wide ≡ length (table_keys narrow wide)
 keys-size = lent-size key_of wide_key_of
@@ -41,13 +23,6 @@ keys-size = lent-size key_of wide_key_of
 -- A table that is lent in the slice of its width alone: the two are that one, each word has what the layout of the width says, and the conditions on
 -- the words and on the keys are those of the width.
 module _ (flagged : Bool) (narrow wide : List ℕ) (alone : of_width (not flagged) narrow wide ≡ []) where
-  pub words-alone : narrow ++ wide ≡ of_width flagged narrow wide
-  words-alone = go flagged alone
-    where
-      go : (b : Bool) → of_width (not b) narrow wide ≡ [] → narrow ++ wide ≡ of_width b narrow wide
-      go false e = ap (λ (l : List ℕ). narrow ++ l) e ∙ append-nil narrow
-      go true e = ap (λ (l : List ℕ). l ++ wide) e
-
   lent-alone : {A : Type 0} (field : Width → ℕ → A)
       → lent (field narrow_width) (field wide_width) narrow wide ≡ map (field (width_of flagged)) (of_width flagged narrow wide)
   lent-alone {A} field = go flagged alone

@@ -1,19 +1,16 @@
 -- The two widths by a Boolean: what is shown of each holds of the one that is meant.
 -- Assumes nothing.
-use mathlib.Core.Path.{◌≡◌, refl, sym, ap, subst, ◌∙◌}
-use Prim.Native.Nat.{ℕ, ◌+◌, ◌-◌, ◌^◌, ◌≤◌, ◌<◌, min}
+use mathlib.Core.Path.{◌≡◌, refl, sym, ap, ◌∙◌}
+use Prim.Native.Nat.{ℕ, ◌+◌, ◌≤◌, min}
 use mathlib.Core.Bool.{Bool, true, false, cond, ◌||◌, beq, or-false}
-use mathlib.Core.List.{List, [], ◌∷◌, ◌++◌}
+use mathlib.Core.List.{List, [], ◌∷◌}
 use native.Mathlib.Omega.{arith}
-use native.Mathlib.Decide.{dec_lt}
 use lib.Dec.{T, eqb, leb, leb→le}
-use lib.ListN.{length, get_or, get_or-append, get_or-eq_default}
-use lib.Seq.{get_or-append-add}
 use borrow.Author.Tests.{eqb-false, lt-leb}
 use Rattle.semantics.specs.Basics.{any_of}
 use Rattle.semantics.specs.declared.Total.{Total}
 use Rattle.semantics.specs.Totals.{held_at, amounts, any_saturated, sum_at}
-use Rattle.semantics.specs.Words.{Width, tombstone_key}
+use Rattle.semantics.specs.Words.{Width}
 use Rattle.semantics.specs.Narrow.{narrow_ceiling, is_narrow_total, narrow_width}
 use Rattle.semantics.specs.Wide.{wide_ceiling, is_wide_total, wide_width}
 use Rattle.semantics.specs.Widths.{width_of, text_of, most_text_of}
@@ -102,21 +99,3 @@ sum-held wide t [] h =
     let e : t.amount + 0 ≡ t.amount = omega arith in
     sym (rw (e, or-false) (held-itself wide t h))
 sum-held wide t (a ∷ more) h = refl
-
--- words of two slices, of which a narrow table uses the first alone: their keys are keys
-module _ (narrow wide : List ℕ) where
-  below : {m : ℕ} → ((i : ℕ) → get_or narrow i 0 < m) → ((i : ℕ) → get_or wide i 0 < m) → (i : ℕ) → get_or (narrow ++ wide) i 0 < m
-  below {m} f g i =
-      elim (dec_lt i (length narrow)) [
-        | yes b ↦ subst (λ (n : ℕ). n < m) (sym (get_or-append narrow wide 0 i b)) (f i)
-        | no b ↦
-            let at : length narrow + (i - length narrow) ≡ i = omega arith in
-            subst (λ (n : ℕ). n < m) (sym (get_or-append-add narrow wide (i - length narrow) 0) ∙ ap (λ (n : ℕ). get_or (narrow ++ wide) n 0) at) (g (i - length narrow))
-      ]
-
-  pub keys-small : (w : Bool) → ((i : ℕ) → get_or narrow i 0 < 2 ^ 32) → ((i : ℕ) → get_or wide i 0 < 2 ^ 64) → (w ≡ false → length wide ≡ 0)
-      → (i : ℕ) → (width_of w).key_of (get_or (narrow ++ wide) i 0) ≤ tombstone_key
-  keys-small true f g alone i = omega (arith, below (λ j. omega (arith, f j)) g i)
-  keys-small false f g alone i =
-      let none : (j : ℕ) → get_or wide j 0 ≡ 0 = λ j. get_or-eq_default wide 0 (omega (arith, alone refl)) in
-      omega (arith, below f (λ j. omega (arith, none j)) i)

@@ -1,9 +1,16 @@
 -- Must be believed: what `run` and `report` promise rests on it.
--- Document 01, "Cells, rows, schedule": cells, operations and answers, over any type of totals.
+-- Cells, operations and answers, over any type of totals. The types are the code's own, of src/values.rt.
 -- Assumes nothing.
 use Rattle.std.specs.Prelude.{ℕ, Bool, true, false, cond, not, List, [], ◌∷◌, eqb}
 use Rattle.std.proofs.Math.Option.{Option, none, some, or_else}
 use Rattle.semantics.specs.Basics.{count_of}
+pub use Rattle.semantics.specs.declared.values.Cell.{Cell}
+pub use Rattle.semantics.specs.declared.values.Cell.TheVariants.{Empty as empty, Tombstone as tombstone, Live as live}
+pub use Rattle.semantics.specs.declared.values.Kind.{Kind}
+pub use Rattle.semantics.specs.declared.values.Kind.TheVariants.{Find as find, Insert as insert, Update as update, Add as add, Remove as remove}
+pub use Rattle.semantics.specs.declared.values.Operation.{Operation}
+pub use Rattle.semantics.specs.declared.values.Answer.{Answer}
+pub use Rattle.semantics.specs.declared.values.Answer.TheVariants.{Found as found, Present as present, Changed as changed, Removed as removed, Capped as capped, Retained as retained, Inserted as inserted, Absent as absent, Full as full}
 
 -- Everything that the rules leave open: the type of totals, which are saturated, how two are added and compared, how one is summed with
 -- others as whole numbers and then held, the number of cells c, and the home of a key.
@@ -16,28 +23,9 @@ pub record Setting : Type 1 where
   pub size : ℕ
   pub home : ℕ → ℕ
 
--- "Word 0 is an empty cell. Key 65,535 with total 0 is a tombstone, a cell whose room was removed. Keys 1 to 65,534 are live."
-pub data Cell (T : Type 0) : Type 0 where
-  empty tombstone : Cell T
-  live : ℕ → T → Cell T
-
--- "The kind is 1 find, 2 insert, 3 update, 4 add, 5 remove."
-pub data Kind : Type 0 where
-  find insert update add remove : Kind
-
--- "A row is one operation": its kind, key and amount (document 01: row)
-pub record Operation (T : Type 0) : Type 0 where
-  pub kind : Kind
-  pub key : ℕ
-  pub amount : T
-
--- "Codes: 0 unfinished, 1 found, 2 inserted, 3 present, 4 changed, 5 removed, 6 absent, 7 full. Codes 0, 2, 6 and 7 carry total 0." "capped (code
--- 8) with the old total" (document 02, "A1"). "held (code 9) with that total" (document 02, "A6"): retained here, since to hold is what an
--- operation does with a word before its swap
-pub data Answer (T : Type 0) : Type 0 where
-  found present changed removed capped retained : T → Answer T
-  inserted absent full : Answer T
-
+-- The code of an answer is its number in a table's words. Code 0 is none of them: an operation that has not finished has it. Code 9 answers an
+-- update that leaves a saturated total (the specification's word: held; retained here, since to hold is what an operation does with a word
+-- before its swap).
 unfoldable pub code_of : {T : Type 0} → Answer T → ℕ
 code_of (found t) = 1
 code_of inserted = 2

@@ -1,5 +1,6 @@
--- An aid, not to be believed: a table that is lent as two slices, one of narrow words and one of wide ones, of which one is empty, so that one
--- search serves both widths. proofs/Lent.antt shows that the conditions here are those of the one slice that is not empty.
+-- An aid, not to be believed: a table that is lent as two slices, one of narrow words and one of wide ones, of which one is empty. No function is
+-- lent a table so; proofs/Lent.antt shows that the conditions here are those of the one slice that is not empty, and proofs/Keys.antt that the
+-- conditions on the keys alone are those of the table.
 -- Assumes nothing.
 use Rattle.std.specs.Prelude.{ℕ, Bool, true, cond, not, List, [], ◌∷◌, ◌++◌, map, leb, length, get_or}
 use Rattle.semantics.specs.Words.{size_allowed}

@@ -1,7 +1,7 @@
 -- Must be believed: what `run` and `report` promise rests on it.
--- Document 01, "What one step does": one atomic step on the one cell that it reads, an entry of the schedule, and the run; with document 02, "A1",
--- an add that is capped, and "A6", an update of a pinned total.
--- StepRules.antt has the document's own lines beside these definitions.
+-- One atomic step on the one cell that it reads, an entry of the schedule, and the run. An add may be capped, and an update of a saturated
+-- total (the specification's word: pinned) is retained. What a step sees, holds, does and leaves are the code's own types, of src/values.rt.
+-- StepRules.antt has the rules line by line beside these definitions.
 -- Assumes nothing.
 use Rattle.std.specs.Prelude.{ℕ, suc, ◌+◌, ◌%◌, Bool, true, false, cond, ◌&&◌, eqb, get_or, set}
 use mathlib.Core.List.{List, [], ◌∷◌, ◌++◌, map, foldl}
@@ -11,23 +11,20 @@ use Rattle.semantics.specs.Basics.{is_some, count_of}
 use Rattle.semantics.specs.Totals.{caps}
 use Rattle.semantics.specs.Cells.{Setting, Cell, empty, tombstone, live, Kind, find, insert, update, add, remove, Operation}
 use Rattle.semantics.specs.Cells.{Answer, found, present, changed, removed, inserted, absent, full, capped, retained}
+pub use Rattle.semantics.specs.declared.values.Held.{Held}
+pub use Rattle.semantics.specs.declared.values.Held.TheVariants.{Vacant as vacant, Mine as mine}
+pub use Rattle.semantics.specs.declared.values.Turn.{Turn}
+pub use Rattle.semantics.specs.declared.values.Turn.TheVariants.{Passes as passes, Loses as loses, Holds as holds, Finishes as finishes}
+pub use Rattle.semantics.specs.declared.values.Sight.{Sight}
+pub use Rattle.semantics.specs.declared.values.Sight.TheVariants.{Own as own, Free as free, Other as other}
+pub use Rattle.semantics.specs.declared.values.Fate.{Fate}
+pub use Rattle.semantics.specs.declared.values.Fate.TheVariants.{Stays as stays, Ends as ends, Becomes as becomes}
+pub use Rattle.semantics.specs.declared.values.Effect.{Effect}
+pub use Rattle.semantics.specs.declared.values.Pending.{Pending}
+pub use Rattle.semantics.specs.declared.values.Pending.TheVariants.{Reading as reading, Holding as holding}
+pub use Rattle.semantics.specs.declared.values.Stepped.{Stepped}
 
--- The word that an operation holds: the empty word, or its own key with a total.
-pub data Held (T : Type 0) : Type 0 where
-  vacant : Held T
-  mine : T → Held T
-
--- "A row's record turns in one of four ways: it passes to the following cell, holds a word it has seen, loses its swap, or finishes."
-pub data Turn (T : Type 0) : Type 0 where
-  passes loses : Turn T
-  holds : Held T → Turn T
-  finishes : Answer T → Turn T
-
--- Where an operation stands, by how many cells it has passed (document 01: a row's record).
-pub data Pending (T : Type 0) : Type 0 where
-  reading : ℕ → Pending T
-  holding : ℕ → Held T → Pending T
-
+-- Where an operation stands (the specification's words: a row's record): a step is pending, or it has finished with an answer.
 pub data State (T : Type 0) : Type 0 where
   pending : Pending T → State T
   finished : Answer T → State T
@@ -44,23 +41,10 @@ after p loses = pending (reading p)
 after p (finishes a) = finished a
 
 -- "Reading, on the word now in the cell": what an operation of key k sees there is its own key, an empty cell, or "Another key or a tombstone".
-pub data Sight (T : Type 0) : Type 0 where
-  own : T → Sight T
-  free other : Sight T
-
 unfoldable pub sight : {T : Type 0} → ℕ → Cell T → Sight T
 sight k empty = free
 sight k tombstone = other
 sight k (live j t) = cond (eqb k j) (own t) other
-
--- What an operation does to the total of its key: it stays, becomes another, or ends with the key's removal.
-pub data Fate (T : Type 0) : Type 0 where
-  stays ends : Fate T
-  becomes : T → Fate T
-
-pub record Effect (T : Type 0) : Type 0 where
-  pub fate : Fate T
-  pub answer : Answer T
 
 -- "insert and add hold the empty word", "insert and add finish full": the kinds that make a missing key
 unfoldable pub makes : Kind → Bool
@@ -70,8 +54,8 @@ makes update = false
 makes add = true
 makes remove = false
 
--- "An update that reads a pinned total of its room finishes at that read as held (code 9) with that total, and nothing is written." (document 02,
--- "A6"): what an update does where its key has total t, by whether t is saturated
+-- "An update that reads a pinned total of its room finishes at that read as held (code 9) with that total, and nothing is written.": what an
+-- update does where its key has total t, by whether t is saturated
 unfoldable pub updating : {T : Type 0} → T → T → Bool → Effect T
 updating t amount true = record { fate = stays; answer = retained t }
 updating t amount false = record { fate = becomes amount; answer = changed t }
@@ -145,10 +129,6 @@ module _ (S : Setting) where
   swap_answer o (mine t) = (effect o.kind t o.amount).answer
 
 -- what one step leaves in its cell, and how its operation's record turns
-pub record Stepped (T : Type 0) : Type 0 where
-  pub cell : Cell T
-  pub turn : Turn T
-
 module _ (S : Setting) where
   -- "the new word is stored and the row finishes. Otherwise the swap is lost, counted, and the row reads the same cell again"
   unfoldable pub swapped : Operation S.Total → Held S.Total → Cell S.Total → Bool → Stepped S.Total

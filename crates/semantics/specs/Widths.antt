@@ -1,6 +1,6 @@
 -- Must be believed: what `report` promises rests on it.
--- The two widths by a Boolean, as code that serves both is told which layout its words have: false is the narrow width of document 01, true the
--- wide one of document 02, "A4". "`roomrun` lists either width, a wide pinned total or amount as `atleast N`."
+-- The two widths by a Boolean, which is whether totals have a flag: false is the narrow width, true the wide one. "`roomrun` lists either width,
+-- a wide pinned total or amount as `atleast N`."
 -- Assumes nothing.
 use Rattle.std.specs.Prelude.{ℕ, Bool, true, false, List}
 use Rattle.semantics.specs.declared.Total.{Total}
@@ -14,7 +14,7 @@ abbrev pub width_of : Bool → Width
 width_of false = narrow_width
 width_of true = wide_width
 
--- Code that serves both is lent two slices, of narrow words and of wide ones: the one of the width
+-- of two tables, of narrow words and of wide ones, the one of the width
 abbrev pub of_width : Bool → List ℕ → List ℕ → List ℕ
 of_width false narrow wide = narrow
 of_width true narrow wide = wide

@@ -1,2 +1,0 @@
-pub mod Rules
-pub mod Turns

@@ -1,3 +1,0 @@
-pub mod Values
-pub mod Rule
-pub mod Turn
