@@ -1,0 +1,5 @@
+pub mod Numbers
+pub mod Fields
+pub mod Flags
+pub mod Packed
+pub mod Truncated
