@@ -5,6 +5,8 @@ use Prim.Native.Nat.{ℕ, zero, suc, ◌+◌, ◌*◌, ◌/◌, ◌%◌, ◌^◌
 use mathlib.Core.Bool.{Bool, true, false, cond, ◌||◌, or-true}
 use native.Mathlib.Nat.{pow-suc, zero-div, mul_comm, one-mul, div-div-eq-div-mul}
 use native.Mathlib.Omega.{arith}
+use Rattle.std.proofs.Math.Pow.{pow_mono}
+use Rattle.std.proofs.Math.Nat.{div-eq_of_lt}
 use lib.Dec.{eqb, leb, eqb-suc-suc, lit≤}
 use lib.Bits.{bit_and, bit_or, and_mask, or_step, or_zero_r}
 use lib.Count.{ones, ones_step}
@@ -98,6 +100,13 @@ pub and-place : (s i : ℕ) → eqb (bit_and (s / 2 ^ i) 1) 1 ≡ is_in s i
 unfolding is_in
 and-place s i = ap (λ n. eqb n 1) (and_mask (s / 2 ^ i) 1)
 
+-- nor is a number past 63 a place of any set
+pub in-past : (s i : ℕ) → s < 2 ^ 64 → 64 ≤ i → is_in s i ≡ false
+unfolding is_in
+in-past s i small past =
+    let none : s / 2 ^ i ≡ 0 = div-eq_of_lt (omega (arith, small, pow_mono past)) in
+    ap (λ n. eqb (n % 2) 1) none
+
 pub including-past : (s i : ℕ) → 64 ≤ i → including s i ≡ s
 unfolding including
 including-past s i b = rw (le-leb 64 i b, or-true)
@@ -110,3 +119,6 @@ same-including s i b = go (is_in s i) refl
     go : (z : Bool) → is_in s i ≡ z → eqb (cond (is_in s i || leb 64 i) s (s + 2 ^ i)) s ≡ z
     go true e = rw e (eq-eqb s s refl)
     go false e = rw (e, lt-leb 64 i b) (ne_eqb (s + 2 ^ i) s (λ q. omega (arith, pow_pos i, q)))
+
+-- what the code does to a place is what the definitions say of it
+pub ruleset places = (and-place, in-past, or-place, including-past)

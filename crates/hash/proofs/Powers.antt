@@ -1,7 +1,7 @@
 -- Powers of two, told by the ones and the trailing zeros of a number, and as numbers of cells.
 -- Assumes nothing.
 use mathlib.Core.Path.{◌≡◌, refl, sym, ap, subst, ◌∙◌}
-use mathlib.Core.Bool.{false, not-eq-not}
+use mathlib.Core.Bool.{true, false, not-eq-not}
 use Prim.Native.Nat.{ℕ, zero, suc, ◌+◌, ◌-◌, ◌*◌, ◌/◌, ◌%◌, ◌^◌, ◌<◌, zero-le}
 use native.Mathlib.Nat.{zero-add, add-zero, add-suc, suc-add, mul_comm, mul-div_cancel, mul-div-mul_right, pow-suc}
 use native.Mathlib.Omega.{arith}
@@ -70,3 +70,8 @@ home-is c k h =
     let p = allowed-power c h in
     let x = hash_of k in
     subst (λ n. x * n / 65536 ≡ x / (65536 / n)) (sym p.is) (scaled p.exponent (16 - p.exponent) x (omega (arith, p.low, p.high)))
+
+pub scaled-home : (c k : ℕ) → size_allowed c ≡ true → scaled_home c k ≡ home_in c k
+scaled-home c k h = home-is c k (true-T _ h)
+
+pub ruleset homes = (scaled-home)

@@ -1,5 +1,5 @@
-// The size of a table and the home of a key in it (document 01, "Cells, rows, schedule"): the cell that
-// the hash of the key gives, where a search begins. Every function takes every input.
+// The size of a table and the home of a key in it: the cell that the hash of the key gives, where a search
+// begins. Every function takes every input.
 #![tactic(auto)]
 
 ghost use Rattle.std.specs.Prelude.{◌≡◌, true};
@@ -11,16 +11,13 @@ ghost use Rattle.semantics.specs.Words.{size_allowed, home_in, scaled_home};
 pub fn size_allowed(c: usize) -> bool
     ensures { result ≡ size_allowed c }
 {
-    if usize::count_ones(c) == 1 {
-        return usize::trailing_zeros(c) < 13;
-    }
-    false
+    c.count_ones() == 1 && c.trailing_zeros() < 13
 }
 
 // The home of a key in c cells, as its hash, one of 65,536, scaled to c: no quotient by a number that is
-// handed in is taken. Document 01 gives homes for allowed sizes alone; the first clause says what any
+// handed in is taken. A key has a home in a table of an allowed size alone; the first clause says what any
 // other size gets.
-#[tactic(auto, unfolding(semantics::specs::Words::scaled_home))]
+#[tactic(auto, using(crate::proofs::Powers::homes), unfolding(semantics::specs::Words::scaled_home))]
 pub fn home(key: u16, c: u32) -> u32
     ensures scaled { result ≡ scaled_home c key }
     ensures home { size_allowed c ≡ true → result ≡ home_in c key }

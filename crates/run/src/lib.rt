@@ -1,153 +1,264 @@
-// A whole schedule (document 01, "What one step does" and "Where a call is turned away"): a call is
-// judged first, and only then is anything written; each entry then takes one step of the operation
-// that it names, or is idle. What follows the checks is written once for both widths: the table and the
-// answers are two slices each, of narrow words and of wide ones, of which one is empty. What asks something
-// of its caller is private here.
+// A whole schedule, of a table of either width. A call is judged first, and only then is anything written: every
+// row's 0 goes to the lent answers; then each entry takes one step of the row that it names, or is idle, and the
+// step that finishes a row writes its answer and its log byte at once. There is no other array of answers. What
+// asks something of its caller is private here: every function that is offered takes every input.
 #![tactic(auto)]
 
-ghost use Rattle.std.specs.Prelude.{◌≡◌, not, [], ◌<◌};
+ghost use Rattle.std.specs.Prelude.{◌≡◌, false, map, slice_set, get_or};
+ghost use Rattle.semantics.specs.Run.{run_result, refusal_of};
 ghost use Rattle.semantics.specs.Sets.{is_in};
+ghost use Rattle.semantics.specs.Words.{decode};
 ghost use Rattle.semantics.specs.Narrow.{narrow_width};
 ghost use Rattle.semantics.specs.Wide.{wide_width};
-ghost use Rattle.semantics.specs.Widths.{width_of, of_width};
-ghost use Rattle.semantics.specs.Run.{run_result};
 ghost use Rattle.semantics.specs.Demands.{Demands};
-ghost use Rattle.entry.specs.Lent.{words_in, Ready};
+ghost use Rattle.row.specs.Row.{is_holding, step_taken};
+ghost use Rattle.run.specs.Rows.{at_home, first_rows};
+ghost use Rattle.run.specs.Entry.{cleared, stored, stands, finished_by, taken_of};
+ghost use Rattle.run.specs.Underway.{Keeps};
 
-use bitset::size;
-use entry::answers::clear;
-use entry::{begin, take};
-use semantics::Outcome;
-use validate::validate;
+use bitset::{has, size, with};
+use hash::home;
+use judge::check;
+use row::{Record, Row, Stage};
+use semantics::rules::{Bounds, NOTHING};
+use semantics::values::{Cell, Kind, Operation, Turn};
+use semantics::{MOST_OPERATIONS, Outcome, Total};
+use word::Word;
 
-// Whether an operation has finished: that an entry is one of 64 places is asked here, and not tested.
-fn is_finished(finished: u64, entry: u8) -> bool
-    requires { entry < 64 }
-    ensures { result ≡ is_in finished entry }
+// What stands in the room for a row that has none.
+// No Option: there is no heap, and the room is for 64 whatever their number.
+const NO_ROW: Row = Row {
+    operation: Operation {
+        kind: Kind::Find,
+        key: 0,
+        amount: NOTHING,
+    },
+    progress: Record {
+        at: 0,
+        passed: 0,
+        stage: Stage::Reading,
+    },
+};
+
+// The row of a word reads first at the home of its key. A word whose number is no kind's, which only a call that is
+// turned away has, gets a row that takes no step.
+fn first_row<W: Word>(word: u64, cells: u32) -> Row
+    ensures { result ≡ at_home W.width cells word }
 {
-    (finished >> entry) & 1 == 1
+    let operation = W::operation(word);
+    match Kind::try_from(W::row_kind(word)) {
+        Ok(_) => Row::new(operation, home(operation.key, cells) as usize),
+        Err(_) => Row {
+            operation,
+            progress: Record {
+                at: 0,
+                passed: 0,
+                stage: Stage::Finished,
+            },
+        },
+    }
 }
 
-// Takes the schedule's entries in turn, on a call that is not turned away, wide or narrow. Once all checks are
-// past, every operation's 0 goes to the lent answers, then each answer at the entry that finishes its
-// operation: there is no other array of answers.
-fn entries(
-    flagged: bool,
-    narrow: &mut [u32],
-    wide: &mut [u64],
+// Each row begins in as many cells as are given. There is room for 64: any further operations have no row.
+pub fn begin<W: Word>(operations: &[u64], cells: u32) -> [Row; MOST_OPERATIONS]
+    ensures { result ≡ first_rows W.width cells operations.now }
+{
+    let mut rows = [NO_ROW; MOST_OPERATIONS];
+    // By index: over `take` or `zip` the invariant would speak of the iterator's own fields, which is no plainer.
+    for (i, word) in operations.iter().enumerate() {
+        if i < MOST_OPERATIONS {
+            rows[i] = first_row::<W>(*word, cells);
+        }
+    }
+    rows
+}
+
+// The first n rows have no answer yet: as many words as there are of those are 0.
+pub fn clear<W: Word>(answers: &mut [W], n: usize)
+    ensures { map W.number answers.new ≡ cleared (map W.number answers.old) n }
+{
+    // By index: over `take` the invariant would speak of the iterator's own fields, which is no plainer.
+    for i in 0..n.min(answers.len()) {
+        answers[i] = W::zero();
+    }
+}
+
+// The cell at a place, past the last one empty.
+// No Option, here and below: the definition is total.
+fn cell_at<W: Word>(cells: &[W], at: usize) -> Cell<Total>
+    ensures { result ≡ decode W.width (get_or (map W.number cells.now) at 0) }
+{
+    if at < cells.len() {
+        cells[at].decode()
+    } else {
+        Cell::Empty
+    }
+}
+
+// Its key, which most steps are told by, before anything else is taken apart.
+fn key_at<W: Word>(cells: &[W], at: usize) -> u16
+    ensures { result ≡ W.width.key_of (get_or (map W.number cells.now) at 0) }
+{
+    if at < cells.len() { cells[at].key() } else { 0 }
+}
+
+// Stores a value at a place, past the last one nowhere.
+fn put<T: Copy>(values: &mut [T], at: usize, value: T)
+    ensures { values.new ≡ slice_set values.old at value }
+{
+    if at < values.len() {
+        values[at] = value;
+    }
+}
+
+// What a step that finishes leaves of its cell, at the place of the record that took it: only the swap of a row that
+// holds a word stores.
+#[tactic(auto, using(crate::proofs::Entry::numbers_set))]
+fn store<W: Word>(cells: &mut [W], from: Record, cell: Cell<Total>)
+    ensures { map W.number cells.new ≡ stored W.width (is_holding from.stage) from.at cell (map W.number cells.old) }
+{
+    if matches!(from.stage, Stage::Holding(_)) {
+        put(cells, from.at, W::encode(cell));
+    }
+}
+
+// What became of an entry: its row had finished, so that it is idle; or the row took a step, after which it goes on,
+// also after it has lost its swap, or has finished.
+#[derive(Clone, Copy)]
+pub enum Taken {
+    Idle,
+    GoesOn,
+    Lost,
+    Finished,
+}
+
+// A step of a row that has not finished, whose key tells no pass. It is not put into the loop over the schedule, whose
+// passes then keep all that they need in registers: measured, a schedule of passes takes about a fifth more
+// instructions without it. The caller lends three slices, as C does: a struct of them would be packed and unpacked at
+// each call. The set of finished rows is a mask, a form that the specification names: a set would need a heap.
+#[inline(never)]
+fn act<W: Word>(
+    cells: &mut [W],
+    answers: &mut [W],
+    log: &mut [u8],
+    row: &mut Row,
+    bounds: Bounds,
+    entry: u8,
+    finished: u64,
+) -> Taken
+    requires { is_in finished entry ≡ false }
+    ensures holds { Keeps W.width bounds entry (stands (map W.number cells.old) (map W.number answers.old) log.old finished)
+        (stands (map W.number cells.new) (map W.number answers.new) log.new (finished_by finished entry result)) row.old row.new result }
+    ensures answers { result ≡ taken_of (is_in finished entry) (step_taken bounds row.old (decode W.width (get_or (map W.number cells.old) row.old.progress.at 0))) }
+{
+    let from = row.progress;
+    let Some(stepped) = row.step(bounds, cell_at(cells, from.at)) else {
+        return Taken::GoesOn;
+    };
+    match stepped.turn {
+        Turn::Passes | Turn::Holds(_) => Taken::GoesOn,
+        Turn::Loses => Taken::Lost,
+        Turn::Finishes(answer) => {
+            store(cells, from, stepped.cell);
+            put(answers, entry as usize, W::answer(answer));
+            put(log, size(finished), entry);
+            Taken::Finished
+        }
+    }
+}
+
+// Takes one entry of a schedule, of a row that is lent. After every entry the slices hold what a run ending there
+// leaves: if they hold what k entries leave, they hold afterwards what k + 1 leave. An entry whose row has finished
+// leaves all as it was, and counts one idle. Any other takes one step of its row, and where that finishes it, its
+// answer and its place in the log are written at once. What it answers is an equation for every entry, also one that is
+// no row's.
+pub fn take<W: Word>(
+    cells: &mut [W],
+    answers: &mut [W],
+    log: &mut [u8],
+    row: &mut Row,
+    bounds: Bounds,
+    entry: u8,
+    finished: u64,
+) -> Taken
+    ensures holds { Keeps W.width bounds entry (stands (map W.number cells.old) (map W.number answers.old) log.old finished)
+        (stands (map W.number cells.new) (map W.number answers.new) log.new (finished_by finished entry result)) row.old row.new result }
+    ensures answers { result ≡ taken_of (is_in finished entry) (step_taken bounds row.old (decode W.width (get_or (map W.number cells.old) row.old.progress.at 0))) }
+{
+    if has(finished, entry) {
+        return Taken::Idle;
+    }
+    if row.skims(bounds.cells, key_at(cells, row.progress.at)) {
+        return Taken::GoesOn;
+    }
+    act(cells, answers, log, row, bounds, entry, finished)
+}
+
+// Takes the schedule's entries in turn, on a call that is not turned away. After every entry the slices hold what a
+// run ending there leaves, a run of the entries so far: that is all that the loop keeps, and take promises it.
+fn entries<W: Word>(
+    cells: &mut [W],
     operations: &[u64],
     schedule: &[u8],
-    answers32: &mut [u32],
-    answers64: &mut [u64],
+    answers: &mut [W],
     log: &mut [u8],
 ) -> Outcome
-    requires { Ready flagged (record { narrow = narrow.old; wide = wide.old }) operations.now schedule.now
-        (record { narrow = answers32.old; wide = answers64.old }) log.old }
-    ensures { run_result (width_of flagged) (words_in flagged (record { narrow = narrow.old; wide = wide.old })) operations.now
-        schedule.now (words_in flagged (record { narrow = answers32.old; wide = answers64.old })) log.old
-        ≡ record {
-          outcome = result;
-          cells = words_in flagged (record { narrow = narrow.new; wide = wide.new });
-          answers = words_in flagged (record { narrow = answers32.new; wide = answers64.new });
-          log = log.new;
-        } }
+    requires { (refusal_of W.width (map W.number cells.old) operations.now schedule.now (map W.number answers.old) log.old).number ≡ 0 }
+    ensures { run_result W.width (map W.number cells.old) operations.now schedule.now (map W.number answers.old) log.old
+        ≡ record { outcome = result; cells = map W.number cells.new; answers = map W.number answers.new; log = log.new } }
 {
-    let c = narrow.len() + wide.len();
-    clear(answers32, answers64, operations.len());
-    let mut records = begin(flagged, c as u32, operations);
-    let mut finished = 0;
-    let mut lost = 0u32;
-    let mut idle = 0;
-    let mut k = 0;
-    // After every entry the slices hold what a run ending there leaves: a run of the first k. An idle entry
-    // leaves them as they are, and any other is for take, which promises it.
-    while k < schedule.len() {
-        let entry = schedule[k];
-        k = k + 1;
-        if is_finished(finished, entry) {
-            idle = idle + 1;
-            continue;
+    let bounds = Bounds {
+        ceiling: W::ceiling(),
+        cells: cells.len(),
+    };
+    clear(answers, operations.len());
+    let mut rows = begin::<W>(operations, cells.len() as u32);
+    let mut finished = 0u64;
+    let mut lost = 0usize;
+    let mut idle = 0usize;
+    for entry in schedule {
+        let i = *entry as usize;
+        match take(cells, answers, log, &mut rows[i], bounds, *entry, finished) {
+            Taken::Idle => idle += 1,
+            Taken::GoesOn => {}
+            Taken::Lost => lost += 1,
+            Taken::Finished => finished = with(finished, *entry),
         }
-        let i = entry as usize;
-        let taken = take(
-            flagged,
-            narrow,
-            wide,
-            c,
-            answers32,
-            answers64,
-            log,
-            entry,
-            operations[i],
-            records[i],
-            finished,
-            lost,
-        );
-        let progress = taken.progress;
-        records[i] = progress;
-        finished = taken.finished;
-        lost = taken.lost as u32;
     }
-    let swaps = lost as usize;
     Outcome {
         number: 0,
         place: 0,
         done: size(finished),
-        lost: swaps,
-        idle: idle,
+        lost,
+        idle,
     }
 }
 
-// A whole run of either width: the call is judged first, and one that is turned away alters nothing.
-fn run_either(
-    flagged: bool,
-    narrow: &mut [u32],
-    wide: &mut [u64],
+// A whole run, on a table of either width. The call is judged first, and one that is turned away alters nothing.
+pub fn run_words<W: Word>(
+    cells: &mut [W],
     operations: &[u64],
     schedule: &[u8],
-    answers32: &mut [u32],
-    answers64: &mut [u64],
+    answers: &mut [W],
     log: &mut [u8],
 ) -> Outcome
-    requires { (of_width (not flagged) narrow.old wide.old ≡ []) × (of_width (not flagged) answers32.old answers64.old ≡ []) }
-    ensures { run_result (width_of flagged) (of_width flagged narrow.old wide.old) operations.now
-        schedule.now (of_width flagged answers32.old answers64.old) log.old
-        ≡ record {
-          outcome = result;
-          cells = of_width flagged narrow.new wide.new;
-          answers = of_width flagged answers32.new answers64.new;
-          log = log.new;
-        } }
+    ensures { Demands W.width (map W.number cells.old) operations.now schedule.now (map W.number answers.old) log.old
+        (record { outcome = result; cells = map W.number cells.new; answers = map W.number answers.new; log = log.new }) }
 {
-    let refusal = validate(
-        flagged,
-        narrow,
-        wide,
-        operations,
-        schedule,
-        answers32.len() + answers64.len(),
-        log.len(),
-    );
-    if refusal.number == 0 {
-        return entries(
-            flagged, narrow, wide, operations, schedule, answers32, answers64, log,
-        );
-    }
-    Outcome {
-        number: refusal.number,
-        place: refusal.place,
-        done: 0,
-        lost: 0,
-        idle: 0,
+    match check(cells, operations, schedule, answers.len(), log.len()) {
+        Ok(()) => entries(cells, operations, schedule, answers, log),
+        Err(reason) => Outcome::from(reason),
     }
 }
 
-// Runs a schedule: the operations that its entries name take one atomic step each, on the cells.
+// Runs a schedule: the operations that its entries name take one atomic step each, on the cells of a narrow table.
 //
 // The call is judged first, and one that is turned away alters nothing. Otherwise the cells, an
 // answer for each operation and a log byte for each that finished are written, and what the slices
 // hold past those stays. All that is promised of a call and its result is one page,
 // semantics/specs/Demands.antt: whatever the schedule, and after any number of its entries.
+//
+// This and the next are two public functions with a promise each, which C calls: one generic function is behind them.
 pub fn run(
     cells: &mut [u32],
     operations: &[u64],
@@ -158,22 +269,10 @@ pub fn run(
     ensures { Demands narrow_width cells.old operations.now schedule.now answers.old log.old
         (record { outcome = result; cells = cells.new; answers = answers.new; log = log.new }) }
 {
-    let mut no_cells = [0u64; 0];
-    let mut no_answers = [0u64; 0];
-    run_either(
-        false,
-        cells,
-        &mut no_cells,
-        operations,
-        schedule,
-        answers,
-        &mut no_answers,
-        log,
-    )
+    run_words(cells, operations, schedule, answers, log)
 }
 
-// The same of a wide table, whose totals have 32 bits and a flag (document 02, "A4"): the same page at
-// the other width.
+// The same of a wide table, whose totals have 32 bits and a flag: the same page at the other width.
 pub fn run_wide(
     cells: &mut [u64],
     operations: &[u64],
@@ -184,16 +283,5 @@ pub fn run_wide(
     ensures { Demands wide_width cells.old operations.now schedule.now answers.old log.old
         (record { outcome = result; cells = cells.new; answers = answers.new; log = log.new }) }
 {
-    let mut no_cells = [0u32; 0];
-    let mut no_answers = [0u32; 0];
-    run_either(
-        true,
-        &mut no_cells,
-        cells,
-        operations,
-        schedule,
-        &mut no_answers,
-        answers,
-        log,
-    )
+    run_words(cells, operations, schedule, answers, log)
 }

@@ -1,4 +1,0 @@
-pub mod Lent
-pub mod Entry
-pub mod First
-pub mod Underway

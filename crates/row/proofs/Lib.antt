@@ -1,0 +1,2 @@
+pub mod ByCase
+pub mod Represents
