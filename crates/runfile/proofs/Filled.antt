@@ -1,6 +1,6 @@
 -- Filling the slices from an accepted file: what they hold at each record is what the records before it say, over what was lent.
 -- Assumes nothing.
-use mathlib.Core.Path.{◌≡◌, refl, sym, ap, subst, ◌∙◌}
+use mathlib.Core.Path.{◌≡◌, refl, sym, ap, ap₂, subst, ◌∙◌}
 use Prim.Native.Nat.{ℕ, ◌+◌, ◌-◌, ◌^◌, ◌≤◌, ◌<◌}
 use mathlib.Core.Bool.{Bool, true, false, cond, true≢false}
 use mathlib.Core.List.{List, [], ◌∷◌, ◌++◌}
@@ -13,13 +13,92 @@ use Rattle.semantics.specs.declared.Mark.{Mark}
 use Rattle.semantics.specs.declared.Mark.TheVariants.{Table, Cell, Operation, Schedule, Unknown}
 use Rattle.semantics.specs.declared.Position.{Position}
 use Rattle.semantics.specs.Run.{over}
+use Rattle.semantics.specs.Narrow.{narrow}
 use Rattle.semantics.specs.Records.{fault_at, records}
-use Rattle.semantics.specs.RunFile.{Layout, row, Contents, byte_at, pair_at, cell_word_at, operation_word_at, entries_at, mark_at, may_follow, past, next_of, start, run_file, load, contents, accepted_reading}
+use Rattle.semantics.specs.RunFile.{Layout, layout_of, row, Contents, byte_at, pair_at, cell_word_at, operation_word_at, entries_at, mark_at, may_follow, past, next_of, start, run_file, load, contents, accepted_reading}
 use Rattle.semantics.proofs.Over.{over_none, over-length, over-set, over-next, over-more}
 use Rattle.semantics.proofs.Records.{Folding, judgement, scan-less, fold-starts, fold-sound, fold-goes-on, fold-ends}
-use Rattle.semantics.proofs.Marks.{Sound, sound, scannable, within, is_known, size_small, inside, few, short}
+use Rattle.semantics.proofs.Marks.{Sound, sound, scannable, is_known, exponent, size_small, inside, few, short}
 use Rattle.io.specs.Counts.{IsPrefixLen}
-use Rattle.runfile.specs.Stored.{stored}
+use Rattle.semantics.specs.Widths.{width_of}
+use Rattle.runfile.specs.declared.record.Record.{Record}
+use Rattle.runfile.specs.declared.record.Record.TheVariants.{Table as a_table, Cell as a_cell, Operation as an_operation, Schedule as a_schedule}
+use Rattle.runfile.specs.Records.{Is}
+use Rattle.runfile.specs.Stored.{kept, Storable}
+use Rattle.runfile.proofs.At.{counted}
+
+-- the slices' contents after the record at p: an operation and entries stand behind those that came before
+unfoldable pub stored : Layout → List ℕ → Position → Mark → Contents → Contents
+stored L file p Table s =
+    record { cells = over (replicate (2 ^ byte_at file (p.at + 2)) 0) s.cells; operations = s.operations; schedule = s.schedule }
+stored L file p Cell s =
+    record {
+      cells = set s.cells (pair_at file (p.at + 2)) (cell_word_at L file p.at);
+      operations = s.operations;
+      schedule = s.schedule;
+    }
+stored L file p Operation s =
+    record {
+      cells = s.cells;
+      operations = set s.operations p.operations (operation_word_at L file p.at);
+      schedule = s.schedule;
+    }
+stored L file p Schedule s =
+    record {
+      cells = s.cells;
+      operations = s.operations;
+      schedule = take p.entries s.schedule ++ over (entries_at file p.at) (drop p.entries s.schedule);
+    }
+stored L file p Unknown s = s
+
+-- a cell and an operation in a file's layout are packed of their fields in the width's
+cell-with : (flagged : Bool) (key : ℕ) (file : List ℕ) (at : ℕ) → (layout_of flagged).cell_with key file at ≡ (width_of flagged).cell_word key ((layout_of flagged).total_at file at)
+unfolding narrow
+cell-with true key file at = refl
+cell-with false key file at = refl
+
+operation-with : (flagged : Bool) (kind key : ℕ) (file : List ℕ) (at : ℕ)
+    → (layout_of flagged).operation_with kind key file at ≡ (width_of flagged).operation_word kind key ((layout_of flagged).total_at file at)
+unfolding narrow
+operation-with true kind key file at = refl
+operation-with false kind key file at = refl
+
+-- what is kept of a record is what its mark says
+module _ (flagged : Bool) (file : List ℕ) (p : Position) (s : Contents) where
+  abbrev said : Mark → Contents
+  said m = stored (layout_of flagged) file p m s
+
+  pub kept-as-said : (r : Record) → Is flagged file p.at (mark_at (layout_of flagged) file p.at) r → kept (width_of flagged) p r s ≡ said (mark_at (layout_of flagged) file p.at)
+  unfolding stored over
+  kept-as-said (a_table k) h =
+      (λ i. record { cells = over (replicate (2 ^ h.1 i) 0) s.cells; operations = s.operations; schedule = s.schedule }) ∙ sym (ap said h.0)
+  kept-as-said (a_cell n key t) h =
+      let word = ap₂ (width_of flagged).cell_word h.2 h.3 ∙ sym (cell-with flagged (pair_at file (p.at + 4)) file (p.at + 6)) in
+      (λ i. record { cells = set s.cells (h.1 i) (word i); operations = s.operations; schedule = s.schedule }) ∙ sym (ap said h.0)
+  kept-as-said (an_operation kind key t) h =
+      let word = (λ i. (width_of flagged).operation_word (h.1 i) (h.2 i) (h.3 i)) ∙ sym (operation-with flagged (byte_at file (p.at + 2)) (pair_at file (p.at + 3)) file (p.at + 5)) in
+      (λ i. record { cells = s.cells; operations = set s.operations p.operations (word i); schedule = s.schedule }) ∙ sym (ap said h.0)
+  kept-as-said (a_schedule e) h =
+      (λ i. record { cells = s.cells; operations = s.operations; schedule = take p.entries s.schedule ++ over (h.1 i) (drop p.entries s.schedule) })
+      ∙ sym (ap said h.0)
+
+-- and the slices have room for it
+pub storable : (flagged : Bool) (file : List ℕ) (p : Position) (ok : fault_at (run_file (layout_of flagged)) file p ≡ 0) (r : Record)
+    → Is flagged file p.at (mark_at (layout_of flagged) file p.at) r → p.size ≤ 4096 → {c n e : ℕ} → 4096 ≤ c → 64 ≤ n → 16384 ≤ e
+    → Storable (width_of flagged) p r c n e
+storable flagged file p ok (a_table k) h small c n e =
+    let known = sound (layout_of flagged) file p refl ok in
+    let size : 2 ^ k ≡ 2 ^ byte_at file (p.at + 2) = ap (λ j. 2 ^ j) h.1 in
+    (omega (arith, exponent known h.0, h.1), omega (arith, size_small known h.0, size, c))
+storable flagged file p ok (a_cell i key t) h small c n e =
+    let known = sound (layout_of flagged) file p refl ok in
+    (omega (arith, inside known h.0, h.1, small, c), h.4)
+storable flagged file p ok (an_operation kind key t) h small c n e =
+    let known = sound (layout_of flagged) file p refl ok in
+    (omega (arith, few known h.0, n), h.4)
+storable flagged file p ok (a_schedule s) h small c n e =
+    let known = sound (layout_of flagged) file p refl ok in
+    omega (arith, short known h.0, counted flagged file p ok s h, e)
 
 -- the slices are long enough
 abbrev pub Room : Contents → Type 0
@@ -162,9 +241,6 @@ module _ {L : Layout} {file : List ℕ} {s₀ : Contents} {p : Position} {s : Co
     (accepted : (judgement (run_file L) file (records (run_file L) file start)).number ≡ 0) where
   pub filling-sound : fault_at (run_file L) file p ≡ 0
   filling-sound = fold-sound f.folding accepted
-
-  pub filling-marked : p.at + 2 ≤ length file
-  filling-marked = omega (arith, within (sound L file p refl filling-sound))
 
   module _ (room : Room s₀) {q : Position} (past : q ≡ next_of L file p) where
     pub filling-less : length file - q.at < length file - p.at

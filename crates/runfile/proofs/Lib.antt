@@ -1,6 +1,9 @@
-pub mod Zeros
-pub mod Judged
+pub mod Order
+pub mod Bytes
+pub mod Totals
+pub mod At
 pub mod Refused
-pub mod Onward
 pub mod Stores
+pub mod Scanned
 pub mod Filled
+pub mod Stands

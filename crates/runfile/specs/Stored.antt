@@ -1,52 +1,34 @@
 -- An aid, not to be believed: it stands in contracts of private functions alone.
--- What the reader stores for one record of an accepted file, in slices that earlier records have filled in part.
+-- What the reader stores for one record, in slices that earlier records have filled in part.
 -- Assumes nothing.
-use Rattle.std.specs.Prelude.{◌≡◌, ℕ, ◌+◌, ◌^◌, ◌≤◌, Bool, not, List, ◌++◌, length, set, take, drop, replicate}
-use Rattle.semantics.specs.declared.Mark.{Mark}
-use Rattle.semantics.specs.declared.Mark.TheVariants.{Table, Cell, Operation, Schedule, Unknown}
+use Rattle.std.specs.Prelude.{ℕ, ◌+◌, ◌^◌, ◌≤◌, ◌<◌, List, ◌++◌, length, map, set, take, drop, replicate}
 use Rattle.semantics.specs.declared.Position.{Position}
-use Rattle.semantics.specs.Refusals.{most_operations, most_entries}
-use Rattle.semantics.specs.Records.{fault_at}
 use Rattle.semantics.specs.Run.{over}
-use Rattle.semantics.specs.Widths.{of_width}
-use Rattle.semantics.specs.RunFile.{Layout, Contents, byte_at, pair_at, cell_word_at, operation_word_at, entries_at, mark_at, most_cells, next_of, run_file}
+use Rattle.semantics.specs.RunFile.{Contents}
+use Rattle.semantics.specs.Words.{Width}
+use Rattle.runfile.specs.declared.record.Record.{Record}
+use Rattle.runfile.specs.declared.record.Record.TheVariants.{Table, Cell, Operation, Schedule}
 
--- The cells are lent as two slices, one for each width: that of the width that is read has come to hold some cells, and the other was not altered.
-pub record Rewritten (flagged : Bool) (narrow wide narrow' wide' cells : List ℕ) : Type 0 where
-  pub is : of_width flagged narrow' wide' ≡ cells
-  pub other : of_width (not flagged) narrow' wide' ≡ of_width (not flagged) narrow wide
+-- what slices hold, the cells by their numbers
+abbrev pub held : {A : Type 0} → (A → ℕ) → List A → List ℕ → List ℕ → Contents
+held number cells operations schedule = record { cells = map number cells; operations = operations; schedule = schedule }
 
--- the slices' contents after the record at p: an operation and entries stand behind those that came before
-unfoldable pub stored : Layout → List ℕ → Position → Mark → Contents → Contents
-stored L file p Table s =
-    record { cells = over (replicate (2 ^ byte_at file (p.at + 2)) 0) s.cells; operations = s.operations; schedule = s.schedule }
-stored L file p Cell s =
-    record {
-      cells = set s.cells (pair_at file (p.at + 2)) (cell_word_at L file p.at);
-      operations = s.operations;
-      schedule = s.schedule;
-    }
-stored L file p Operation s =
-    record {
-      cells = s.cells;
-      operations = set s.operations p.operations (operation_word_at L file p.at);
-      schedule = s.schedule;
-    }
-stored L file p Schedule s =
-    record {
-      cells = s.cells;
-      operations = s.operations;
-      schedule = take p.entries s.schedule ++ over (entries_at file p.at) (drop p.entries s.schedule);
-    }
-stored L file p Unknown s = s
+module _ (W : Width) (p : Position) where
+  abbrev pub kept : Record → Contents → Contents
+  kept (Table k) s = record { cells = over (replicate (2 ^ k) 0) s.cells; operations = s.operations; schedule = s.schedule }
+  kept (Cell n key t) s = record { cells = set s.cells n (W.cell_word key t); operations = s.operations; schedule = s.schedule }
+  kept (Operation kind key t) s =
+      record { cells = s.cells; operations = set s.operations p.operations (W.operation_word kind key t); schedule = s.schedule }
+  kept (Schedule entries) s =
+      record {
+        cells = s.cells;
+        operations = s.operations;
+        schedule = take p.entries s.schedule ++ over entries.now (drop p.entries s.schedule);
+      }
 
--- what storing the record at p asks: m is its mark, it is not turned away, q is the position past it, and the slices have room for the most that a
--- file may hold
-pub record Storable (L : Layout) (file : List ℕ) (m : Mark) (p q : Position) (c n e : List ℕ) : Type 0 where
-  pub mark : m ≡ mark_at L file p.at
-  pub sound : fault_at (run_file L) file p ≡ 0
-  pub past : q ≡ next_of L file p
-  pub size : p.size ≤ most_cells
-  pub cells : most_cells ≤ length c
-  pub operations : most_operations ≤ length n
-  pub entries : most_entries ≤ length e
+  -- where it has room, in slices of some lengths
+  abbrev pub Storable : Record → ℕ → ℕ → ℕ → Type 0
+  Storable (Table k) c n e = (k < 13) × (2 ^ k ≤ c)
+  Storable (Cell i key t) c n e = (i < c) × (t.amount ≤ W.ceiling)
+  Storable (Operation kind key t) c n e = (p.operations < n) × (t.amount ≤ W.ceiling)
+  Storable (Schedule entries) c n e = p.entries + length entries.now ≤ e

@@ -1,60 +1,73 @@
--- A record more is stored; the last one ends it.
--- Assumes nothing.
-use Rattle.std.proofs.Common.{refl, ◌∙◌, arith}
+use Rattle.std.proofs.Common.{◌≤◌, ◌∙◌, sym, ap, subst, length, arith}
+use lib.ListN.{length-map}
 use Rattle.semantics.specs.RunFile.{layout_of}
 use Rattle.semantics.proofs.Marks.{records-accepted}
+use Rattle.runfile.specs.Stored.{held, kept, Storable}
 use Rattle.runfile.proofs.Refused.{slices-fit}
-use Rattle.runfile.proofs.Filled.{filling-starts, filling-sound, filling-marked, filling-less, holds-long, holds-counted, turned, filling-again, filling-ends}
+use Rattle.runfile.proofs.Filled.{holds-long, holds-counted, filling-starts, filling-sound, filling-less, filling-again, filling-ends, turned, kept-as-said, storable}
 use Rattle.runfile.proofs.fill.Goals as goal
 
 pub loop-position-init : goal.loop-position-init
-loop-position-init c = record { filling = filling-starts (layout_of c.args.flagged) c.args.file.now _ c.start-position.ensures; kept = refl }
+loop-position-init g c =
+    let W = g.W.Word in
+    filling-starts (layout_of W.flagged) c.args.file.now (held W.number c.args.cells.now c.args.operations.now c.args.schedule.now) c.start-position.ensures
 
-pub mark_of-mark-requires : goal.mark_of-mark-requires
-mark_of-mark-requires c =
-    filling-marked c.loop-position.invariant.filling (records-accepted (layout_of c.args.flagged) c.args.file.now _ _ _ c.requires)
-
-pub past-next-requires : goal.past-next-requires
-past-next-requires c =
-    (filling-sound c.loop-position.invariant.filling (records-accepted (layout_of c.args.flagged) c.args.file.now _ _ _ c.requires), c.mark_of-mark.ensures)
+pub sound_record-requires : goal.sound_record-requires
+sound_record-requires g c =
+    let accepted = records-accepted (layout_of g.W.Word.flagged) c.args.file.now _ _ _ c.requires in
+    filling-sound c.loop-position.invariant accepted
 
 pub store-requires : goal.store-requires
-store-requires c =
-    let filling = c.loop-position.invariant.filling in
-    let room = slices-fit (layout_of c.args.flagged) c.args.file.now _ _ _ c.requires in
-    let long = holds-long room filling.holds in
-    record {
-      mark = c.mark_of-mark.ensures;
-      sound = filling-sound filling (records-accepted (layout_of c.args.flagged) c.args.file.now _ _ _ c.requires);
-      past = c.past-next.ensures;
-      size = filling.holds.small.cells;
-      cells = omega (arith, long.0, room.0);
-      operations = omega (arith, long.1, room.1);
-      entries = omega (arith, long.2, room.2);
-    }
+store-requires g c =
+    let W = g.W.Word in
+    let l = c.loop-position in
+    let room = slices-fit (layout_of W.flagged) c.args.file.now _ _ _ c.requires in
+    let long = holds-long room l.invariant.holds in
+    let read = c.sound_record.ensures in
+    let cells : 4096 ≤ length l.cells = omega (arith, long.0, room.0, length-map l.cells W.number) in
+    let operations : 64 ≤ length l.operations = omega (arith, long.1, room.1) in
+    let schedule : 16384 ≤ length l.schedule = omega (arith, long.2, room.2) in
+    subst (λ w. Storable w l.position c.sound_record.result.0 (length l.cells) (length l.operations) (length l.schedule)) (sym g.met.W.Word.of_flag)
+    (storable W.flagged c.args.file.now l.position read.0 c.sound_record.result.0 read.1 l.invariant.holds.small.cells cells operations schedule)
 
-pub returns-then-file-position-clause-schedule_value : goal.returns-then-file-position-clause-schedule_value
-returns-then-file-position-clause-schedule_value c =
-    filling-ends c.loop-position.invariant.filling (records-accepted (layout_of c.args.flagged) c.args.file.now _ _ _ c.requires)
-    (slices-fit (layout_of c.args.flagged) c.args.file.now _ _ _ c.requires) c.past-next.ensures c.store.ensures.schedule_value c.if-file-position.true
+pub returns-then-file-position-clause-filled : goal.returns-then-file-position-clause-filled
+returns-then-file-position-clause-filled g c =
+    let W = g.W.Word in
+    let l = c.loop-position in
+    let accepted = records-accepted (layout_of W.flagged) c.args.file.now _ _ _ c.requires in
+    let room = slices-fit (layout_of W.flagged) c.args.file.now _ _ _ c.requires in
+    let read = c.sound_record.ensures in
+    let s = held W.number l.cells l.operations l.schedule in
+    let stores = sym (kept-as-said W.flagged c.args.file.now l.position s c.sound_record.result.0 read.1)
+    ∙ ap (λ w. kept w l.position c.sound_record.result.0 s) (sym g.met.W.Word.of_flag) ∙ c.store.ensures in
+    rw c.loaded.ensures (filling-ends l.invariant accepted room read.2 stores c.if-file-position.true)
 
-pub returns-then-file-position-clause-prefix_len : goal.returns-then-file-position-clause-prefix_len
-returns-then-file-position-clause-prefix_len c =
-    let room = slices-fit (layout_of c.args.flagged) c.args.file.now _ _ _ c.requires in
-    holds-counted room
-    (turned c.loop-position.invariant.filling (records-accepted (layout_of c.args.flagged) c.args.file.now _ _ _ c.requires) room c.past-next.ensures
-    c.store.ensures.schedule_value)
+pub returns-then-file-position-clause-counted : goal.returns-then-file-position-clause-counted
+returns-then-file-position-clause-counted g c =
+    let W = g.W.Word in
+    let l = c.loop-position in
+    let accepted = records-accepted (layout_of W.flagged) c.args.file.now _ _ _ c.requires in
+    let room = slices-fit (layout_of W.flagged) c.args.file.now _ _ _ c.requires in
+    let read = c.sound_record.ensures in
+    let s = held W.number l.cells l.operations l.schedule in
+    let stores = sym (kept-as-said W.flagged c.args.file.now l.position s c.sound_record.result.0 read.1)
+    ∙ ap (λ w. kept w l.position c.sound_record.result.0 s) (sym g.met.W.Word.of_flag) ∙ c.store.ensures in
+    rw c.loaded.ensures (holds-counted room (turned l.invariant accepted room read.2 stores))
 
 pub loop-position-smaller : goal.loop-position-smaller
-loop-position-smaller c =
-    filling-less c.loop-position.invariant.filling (records-accepted (layout_of c.args.flagged) c.args.file.now _ _ _ c.requires)
-    (slices-fit (layout_of c.args.flagged) c.args.file.now _ _ _ c.requires) c.past-next.ensures
+loop-position-smaller g c =
+    let accepted = records-accepted (layout_of g.W.Word.flagged) c.args.file.now _ _ _ c.requires in
+    let room = slices-fit (layout_of g.W.Word.flagged) c.args.file.now _ _ _ c.requires in
+    filling-less c.loop-position.invariant accepted room c.sound_record.ensures.2
 
 pub loop-position-preserved : goal.loop-position-preserved
-loop-position-preserved c =
-    record {
-      filling =
-          filling-again c.loop-position.invariant.filling (records-accepted (layout_of c.args.flagged) c.args.file.now _ _ _ c.requires)
-          (slices-fit (layout_of c.args.flagged) c.args.file.now _ _ _ c.requires) c.past-next.ensures c.store.ensures.schedule_value c.if-file-position.false;
-      kept = c.store.ensures.wide_unchanged ∙ c.loop-position.invariant.kept;
-    }
+loop-position-preserved g c =
+    let W = g.W.Word in
+    let l = c.loop-position in
+    let accepted = records-accepted (layout_of W.flagged) c.args.file.now _ _ _ c.requires in
+    let room = slices-fit (layout_of W.flagged) c.args.file.now _ _ _ c.requires in
+    let read = c.sound_record.ensures in
+    let s = held W.number l.cells l.operations l.schedule in
+    let stores = sym (kept-as-said W.flagged c.args.file.now l.position s c.sound_record.result.0 read.1)
+    ∙ ap (λ w. kept w l.position c.sound_record.result.0 s) (sym g.met.W.Word.of_flag) ∙ c.store.ensures in
+    filling-again l.invariant accepted room read.2 stores c.if-file-position.false
