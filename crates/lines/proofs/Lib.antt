@@ -1,4 +1,0 @@
-pub mod CellLines
-pub mod Lines
-pub mod RowLines
-pub mod Elements

@@ -1,2 +1,0 @@
-pub mod Reached
-pub mod Element
