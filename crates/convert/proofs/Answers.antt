@@ -18,9 +18,20 @@ use Rattle.semantics.specs.Convert.{converted, conversion_refusal, conversion_if
 use Rattle.semantics.proofs.Over.{over-length}
 use Rattle.semantics.proofs.Faithful.{accepted-parts, faithful}
 use Rattle.semantics.proofs.Lengths.{refusal}
+use Rattle.runfile.proofs.Scanned.{positive as fault-positive}
+use Rattle.convert.specs.declared.Reason.{Reason}
+use Rattle.convert.specs.declared.Reason.TheVariants.{Reader, Unfit, TooLong, TooShort}
+use Rattle.convert.specs.Reasons.{number_of}
 use Rattle.io.specs.Counts.{IsPrefixLen}
-use Rattle.text.specs.Writing.{written}
-use Rattle.text.proofs.Writing.{handed-whole}
+use Rattle.listing.specs.Writing.{written}
+use Rattle.listing.proofs.Writing.{handed-whole}
+
+-- a reason has a number
+pub positive : (r : Reason) → number_of r ≡ 0 → ⊥
+positive (Reader f) e = fault-positive f e
+positive (Unfit at) e = omega (arith, e)
+positive TooLong e = omega (arith, e)
+positive TooShort e = omega (arith, e)
 
 -- what is handed over of a text that fits, and of one that does not
 pub handed-fits : (bytes out : List ℕ) → length bytes ≤ length out → handed bytes out ≡ record { written = record { number = 0; place = 0; length = length bytes }; out = over bytes out }
@@ -61,19 +72,9 @@ module _ (flagged : Bool) (file out : List ℕ) where
         ∙ (λ i. record { written = record { number = 0; place = 0; length = sym is i }; out = sym put i })
 
   -- the same as the search reads it
-  pub answers-too-short : why.number ≡ 0 → length out < length result
+  pub answers-too-short : {n : ℕ} → why.number ≡ 0 → n ≡ length result → length out < n
       → conversion flagged file out ≡ record { written = record { number = 3; place = 0; length = 0 }; out = out }
-  answers-too-short ok h = answers-short ok refl h
-
-  -- the slice is as long as it was
-  pub answer-long : {r : Written} {left : List ℕ} → conversion flagged file out ≡ record { written = r; out = left } → length left ≡ length out
-  answer-long {r} {left} e = elim (ℕ_discrete why.number 0) [
-    | yes ok ↦ elim (dec_le (length result) (length out)) [
-      | yes fits ↦ ap (λ (h : Handed). length h.out) (sym e ∙ answers-whole ok refl fits refl) ∙ over-length result out fits
-      | no short ↦ ap (λ (h : Handed). length h.out) (sym e ∙ answers-short ok refl (omega arith))
-    ]
-    | no not ↦ ap (λ (h : Handed). length h.out) (sym e ∙ answers-refusal refl not)
-  ]
+  answers-too-short ok is h = answers-short ok is h
 
   -- a number that is answered is the refusal's, or 3
   pub answer-22 : {r : Written} {left : List ℕ} → conversion flagged file out ≡ record { written = r; out = left } → r.number ≡ 22 → why.number ≡ 22
@@ -138,4 +139,8 @@ pub faithful-of : (flagged : Bool) (file : List ℕ) → ((i : ℕ) → get_or f
     → (conversion_refusal flagged file ≡ conversion_refusal flagged file) × Faithful flagged file
 faithful-of flagged file small ok = (refl, faithful flagged file (record { below = λ i. omega (arith, small i) }) ok)
 
-pub ruleset answered = (answers-too-short, faithful-of)
+pub ruleset faithful_told = (faithful-of)
+
+pub ruleset text_told = (text-counted, text-fits)
+
+pub ruleset short_told = (answers-too-short)

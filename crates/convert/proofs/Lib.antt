@@ -1,4 +1,4 @@
-pub mod Lone
-pub mod Rewritten
+pub mod Walk
+pub mod Anew
 pub mod Passes
 pub mod Answers

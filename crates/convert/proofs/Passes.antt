@@ -1,456 +1,283 @@
--- The two passes over a file that is converted: what is known of the result at each record, and what is written of it.
+-- The two walks over the records of a file: the one that judges them and measures the result, and the one that writes it.
 -- Assumes nothing.
 use mathlib.Core.Path.{◌≡◌, refl, sym, ap, subst, ◌∙◌}
-use Prim.Native.Nat.{ℕ, suc, ◌+◌, ◌-◌, ◌*◌, ◌≤◌, ◌<◌}
-use mathlib.Core.Bool.{Bool, true, false, cond, not, ◌&&◌, true≢false}
+use Prim.Native.Nat.{ℕ, ◌+◌, ◌-◌, ◌*◌, ◌≤◌, ◌<◌}
+use mathlib.Core.Bool.{Bool, true, false, cond, not}
 use mathlib.Core.List.{List, [], ◌∷◌, ◌++◌, map, foldl, append_assoc, append-nil}
-use native.Mathlib.Decide.{ℕ_discrete}
 use native.Mathlib.Omega.{arith}
-use lib.Dec.{eqb, ltb}
-use lib.ListN.{length, take, drop, length-append, length-drop}
-use lib.Seq.{take_all}
-use borrow.Author.Tests.{eq-eqb, ne_eqb}
-use Rattle.semantics.specs.declared.Mark.{Mark}
-use Rattle.semantics.specs.declared.Mark.TheVariants.{Table, Cell, Operation, Schedule, Unknown}
+use lib.Dec.{ltb}
+use lib.ListN.{length, take, drop, length-append}
+use lib.Seq.{drop-drop}
+use Rattle.std.specs.Prelude.{Result, Ok, Err, Option as Maybe, Some, None}
+use Rattle.std.specs.Option.{option_or}
 use Rattle.semantics.specs.declared.Position.{Position}
 use Rattle.semantics.specs.declared.Refusal.{Refusal}
-use Rattle.semantics.specs.declared.Written.{Written}
 use Rattle.semantics.specs.Run.{over}
 use Rattle.semantics.specs.Refusals.{Condition, first_met}
-use Rattle.semantics.specs.Records.{fault_at, records_from, records}
-use Rattle.semantics.specs.RunFile.{Layout, layout_of, row, byte_at, mark_at, size_of, past, next_of, run_file, start, file_conditions, file_refusal}
-use Rattle.semantics.specs.Convert.{record_at, file_records, bytes_of, file_of, target, converted, is_unfit_in, unfit_at, result_too_long, conversion_conditions, conversion_refusal}
-use Rattle.semantics.proofs.Conditions.{NoneMet, none-met, met-early, met-late, met-none}
-use Rattle.semantics.proofs.Marks.{scannable, sound, within}
-use Rattle.semantics.proofs.Parts.{part-agrees, mark-agrees}
+use Rattle.semantics.specs.Records.{fault_at}
+use Rattle.semantics.specs.RunFile.{Layout, layout_of, mark_at, next_of, run_file, start, file_conditions, file_refusal}
+use Rattle.semantics.specs.Convert.{record_at, file_records, bytes_of, file_of, converted, is_unfit_in, unfit_at, result_too_long, conversion_conditions, conversion_refusal}
+use Rattle.semantics.proofs.Conditions.{none-met, met-early, met-late}
+use Rattle.semantics.proofs.Records.{Folding, judgement, fold-starts, fold-goes-on, fold-ends, judge-ends}
+use Rattle.semantics.proofs.Marks.{scannable}
 use Rattle.semantics.proofs.Convert.{Bytes}
-use Rattle.semantics.proofs.Converted.{Chain, chain-from, chain-records, rest-kept}
-use Rattle.semantics.proofs.Records.{Left, Folding, judgement, fold-starts, fold-goes-on, fold-ends, fold-sound, from-here, judge-ends, judge-faulty}
-use Rattle.semantics.proofs.Over.{over_none, over-length}
+use Rattle.semantics.proofs.Converted.{rest-kept}
 use Rattle.semantics.proofs.Faithful.{positive-file, positive-unfit, file-accepted}
+use Rattle.semantics.proofs.Over.{over_none, over-length, over-more}
+use Rattle.semantics.proofs.Parts.{total-bytes}
+use Rattle.runfile.specs.declared.record.Fault.{Fault}
+use Rattle.runfile.specs.declared.record.Record.{Record}
+use Rattle.runfile.specs.declared.record.Record.TheVariants.{Table, Cell, Operation, Schedule}
+use Rattle.runfile.specs.Faults.{number_of as number_of_fault, place_of as place_of_fault}
+use Rattle.runfile.specs.Records.{Is, Whole}
 use Rattle.runfile.proofs.Refused.{file-is-long, by-records}
-use Rattle.convert.specs.Weighed.{Whole, Plain, rewritten, weighed, limited_to}
-use Rattle.convert.proofs.Rewritten.{behind, end-room}
-use Rattle.convert.proofs.Lone.{lone_is, rewritten-is, lent-inside, lent-whole, lent-mark, grows}
+use Rattle.runfile.proofs.Scanned.{positive, scan-refused}
+use Rattle.runfile.proofs.Totals.{tail}
+use Rattle.convert.specs.declared.Reason.{Reason}
+use Rattle.convert.specs.Reasons.{limits, Limits, Measured}
+use Rattle.convert.specs.Rewritten.{unfit_place, size_in, rewritten, result_of}
+use Rattle.convert.proofs.Walk.{Remains, all, at-first, steps, next-inside, Here, here, none-left, moves, beyond_at}
+use Rattle.convert.proofs.Anew.{rewritten-long, unfit-there, long-there, anew, behind}
 
-abbrev unweighed : Written
-unweighed = record { number = 0; place = 0; length = 0 }
-
-module _ (flagged : Bool) (file : List ℕ) where
+module _ (from : Bool) (file : List ℕ) where
   abbrev L : Layout
-  L = layout_of flagged
+  L = layout_of from
 
-  abbrev all : List Position
-  all = records (run_file L) file start
-
-  abbrev judging : Refusal
-  judging = judgement (run_file L) file all
-
-  abbrev bytes_at : Position → List ℕ
-  bytes_at p = bytes_of (target flagged) (record_at L file p)
-
-  -- what the record at p adds to what is known: it is unfit, or it is not or comes too late
-  abbrev caught : Written → Position → Written
-  caught w p = record { number = 13; place = p.at; length = w.length + length (bytes_at p) }
-
-  abbrev fine : Written → Position → Written
-  fine w p = record { number = w.number; place = w.place; length = w.length + length (bytes_at p) }
-
-  unfoldable pub weighed_at : Written → Position → Written
-  weighed_at w p = cond (eqb w.number 0 && is_unfit_in flagged (record_at L file p).total) (caught w p) (fine w p)
-
-  -- and to what is written
-  unfoldable pub appended : List ℕ → Position → List ℕ
-  appended h p = h ++ bytes_at p
-
-  all-appended : (h : List ℕ) (qs : List Position) → foldl appended h qs ≡ h ++ file_of (target flagged) (map (record_at L file) qs)
-  unfolding appended file_of
-  all-appended h [] = sym (append-nil h)
-  all-appended h (q ∷ qs) = all-appended (h ++ bytes_at q) qs ∙ append_assoc h (bytes_at q) (file_of (target flagged) (map (record_at L file) qs))
-
-  -- what is written stays, and the record at p comes behind it
-  at_least : (h : List ℕ) (qs : List Position) → length h ≤ length (foldl appended h qs)
-  at_least h qs = omega (arith, ap length (all-appended h qs), length-append h (file_of (target flagged) (map (record_at L file) qs)))
-
-  first-in : (h : List ℕ) (p : Position) (n : ℕ) → length (h ++ bytes_at p) ≤ length (foldl appended h (records_from (run_file L) file (suc n) p))
-  unfolding appended
-  first-in h p n =
-      from-here (run_file L) file (λ qs. length (h ++ bytes_at p) ≤ length (foldl appended h qs)) n p
-      (λ g. at_least (h ++ bytes_at p) (records_from (run_file L) file n (next_of L file p))) (at_least (h ++ bytes_at p) [])
-
-  is-converted : foldl appended [] all ≡ converted flagged file
-  unfolding converted file_records
-  is-converted = all-appended [] all
-
-  weighed-length : (w : Written) (qs : List Position) → (foldl weighed_at w qs).length ≡ w.length + length (file_of (target flagged) (map (record_at L file) qs))
-  unfolding file_of weighed_at
-  weighed-length w [] = omega arith
-  weighed-length w (q ∷ qs) =
-      weighed-length (weighed_at w q) qs
-      ∙ ap (λ n. n + length (file_of (target flagged) (map (record_at L file) qs))) (go (eqb w.number 0 && is_unfit_in flagged (record_at L file q).total))
-      ∙ omega (arith, length-append (bytes_at q) (file_of (target flagged) (map (record_at L file) qs)))
-    where
-      go : (b : Bool) → (cond {A = Written} b (caught w q) (fine w q)).length ≡ w.length + length (bytes_at q)
-      go true = refl
-      go false = refl
-
-  abbrev refusal : Written → Refusal
-  refusal w = record { number = w.number; place = w.place }
-
-  -- the first that is unfit decides
-  weighed-again : (w : Written) (qs : List Position) → (w.number ≡ 0 → ⊥) → refusal (foldl weighed_at w qs) ≡ refusal w
-  unfolding weighed_at
-  weighed-again w [] h = refl
-  weighed-again w (q ∷ qs) h =
-      let same : weighed_at w q ≡ fine w q = ap (λ b. cond (b && is_unfit_in flagged (record_at L file q).total) (caught w q) (fine w q)) (ne_eqb w.number 0 h) in
-      ap (λ v. refusal (foldl weighed_at v qs)) same ∙ weighed-again (fine w q) qs h
-
-  weighed-first : (n : ℕ) (qs : List Position) → refusal (foldl weighed_at (record { number = 0; place = 0; length = n }) qs) ≡ first_met (map (unfit_at flagged file) qs)
-  unfolding weighed_at first_met unfit_at
-  weighed-first n [] = refl
-  weighed-first n (q ∷ qs) = go (is_unfit_in flagged (record_at L file q).total) (weighed-first (n + length (bytes_at q)) qs)
-    where
-      w : Written
-      w = record { number = 0; place = 0; length = n }
-
-      go : (b : Bool) → refusal (foldl weighed_at (fine w q) qs) ≡ first_met (map (unfit_at flagged file) qs)
-          → refusal (foldl weighed_at (cond b (caught w q) (fine w q)) qs) ≡ cond b (record { number = 13; place = q.at }) (first_met (map (unfit_at flagged file) qs))
-      go true r = weighed-again (caught w q) qs (λ z. omega arith)
-      go false r = r
-
-  -- so what is known at the end is the refusal, before that of a result that is too long, and the length
-  known-refusal : refusal (foldl weighed_at unweighed all) ≡ first_met (map (unfit_at flagged file) all)
-  known-refusal = weighed-first 0 all
-
-  known-length : (foldl weighed_at unweighed all).length ≡ length (converted flagged file)
-  unfolding converted file_records
-  known-length = weighed-length unweighed all ∙ omega arith
-
-  -- a file that the reader takes is judged by its totals and then by the length of its result
-  abbrev by_unfit : List Condition
-  by_unfit = map (unfit_at flagged file) all
+  abbrev unfit : List Position → List Condition
+  unfit ps = map (unfit_at from file) ps
 
   abbrev late : List Condition
-  late = result_too_long flagged file ∷ []
+  late = result_too_long from file ∷ []
 
-  by-rest : (file_refusal L file).number ≡ 0 → conversion_refusal flagged file ≡ first_met (by_unfit ++ late)
+  -- a file that the reader takes is judged by its totals and then by the length of its result
+  by-rest : (file_refusal L file).number ≡ 0 → conversion_refusal from file ≡ first_met (unfit (all from file) ++ late)
   unfolding conversion_refusal conversion_conditions file_refusal
   by-rest ok =
-      ap first_met (append_assoc (file_conditions L file) by_unfit late)
-      ∙ met-late (file_conditions L file) (by_unfit ++ late) (none-met (file_conditions L file) (positive-file L file) ok)
+      ap first_met (append_assoc (file_conditions L file) (unfit (all from file)) late)
+      ∙ met-late (file_conditions L file) (unfit (all from file) ++ late) (none-met (file_conditions L file) (positive-file L file) ok)
 
-  by-file : ((file_refusal L file).number ≡ 0 → ⊥) → conversion_refusal flagged file ≡ file_refusal L file
+  pub by-file : ((file_refusal L file).number ≡ 0 → ⊥) → conversion_refusal from file ≡ file_refusal L file
   unfolding conversion_refusal conversion_conditions file_refusal
   by-file n =
-      ap first_met (append_assoc (file_conditions L file) by_unfit late) ∙ met-early (file_conditions L file) (by_unfit ++ late) n
+      ap first_met (append_assoc (file_conditions L file) (unfit (all from file)) late)
+      ∙ met-early (file_conditions L file) (unfit (all from file) ++ late) n
 
-  module _ {w : Written} (first : refusal w ≡ first_met by_unfit) (long : w.length ≡ length (converted flagged file)) where
-    by_length : w.number ≡ 0 → (limited_to 65535 w ≡ cond (ltb 65535 w.length) (record { number = 22; place = 0; length = 0 }) w)
-    unfolding limited_to
-    by_length z = ap (λ b. cond (b && ltb 65535 w.length) (record { number = 22; place = 0; length = 0 }) w) (eq-eqb w.number 0 z)
+  unfit-decides : (file_refusal L file).number ≡ 0 → {n place : ℕ} → first_met (unfit (all from file)) ≡ record { number = n; place = place } → (n ≡ 0 → ⊥)
+      → conversion_refusal from file ≡ record { number = n; place = place }
+  unfit-decides ok e z =
+      by-rest ok ∙ met-early (unfit (all from file)) late (λ f. z (ap (λ (r : Refusal). r.number) (sym e) ∙ f)) ∙ e
 
-    none : w.number ≡ 0 → NoneMet by_unfit
-    none z = none-met by_unfit (positive-unfit flagged file all) (ap (λ (r : Refusal). r.number) (sym first) ∙ z)
+  length-decides : (file_refusal L file).number ≡ 0 → (first_met (unfit (all from file))).number ≡ 0 → {b : Bool} → ltb 65535 (length (converted from file)) ≡ b
+      → conversion_refusal from file ≡ cond b (record { number = 22; place = 0 }) (record { number = 0; place = 0 })
+  unfolding first_met result_too_long
+  length-decides ok none e =
+      by-rest ok ∙ met-late (unfit (all from file)) late (none-met (unfit (all from file)) (positive-unfit from file (all from file)) none)
+      ∙ ap (λ b. cond b (record { number = 22; place = 0 }) (record { number = 0; place = 0 })) e
 
-    nothing_said : w.number ≡ 0 → refusal w ≡ record { number = 0; place = 0 }
-    nothing_said z = first ∙ ap first_met (sym (append-nil by_unfit)) ∙ met-late by_unfit [] (none z) ∙ met-none
+  module _ (to : Bool) where
+    -- no record grows to more than three times its size
+    grows : (r : Record) → size_in to r ≤ 3 * size_in from r
+    grows (Table k) = omega arith
+    grows (Cell n key t) = omega (arith, total-bytes from, total-bytes to)
+    grows (Operation kind key t) = omega (arith, total-bytes from, total-bytes to)
+    grows (Schedule t) = omega arith
 
-    last-decides : w.number ≡ 0 → first_met late ≡ refusal (limited_to 65535 w)
-    unfolding first_met result_too_long
-    last-decides z =
-        ap (λ n. cond (ltb 65535 n) (record { number = 22; place = 0 }) (record { number = 0; place = 0 })) (sym long)
-        ∙ go (ltb 65535 w.length)
-        ∙ ap refusal (sym (by_length z))
+    abbrev L' : Layout
+    L' = layout_of to
+
+    abbrev others : List Position → List ℕ
+    others ps = file_of L' (map (record_at L file) ps)
+
+    -- what a record adds to what is known of the result: where the first unfit one stands, and how long it is
+    unfoldable pub weighed : Maybe ℕ × ℕ → Position → Maybe ℕ × ℕ
+    weighed w p = (
+      option_or w.0 (cond (is_unfit_in from (record_at L file p).total) (Some p.at) None),
+      w.1 + length (bytes_of L' (record_at L file p)),
+    )
+
+    abbrev known : Maybe ℕ × ℕ
+    known = foldl weighed (None, 0) (all from file)
+
+    weighed-length : (w : Maybe ℕ × ℕ) (qs : List Position) → (foldl weighed w qs).1 ≡ w.1 + length (others qs)
+    unfolding weighed file_of
+    weighed-length w [] = omega arith
+    weighed-length w (q ∷ qs) = omega (arith, weighed-length (weighed w q) qs, length-append (bytes_of L' (record_at L file q)) (others qs))
+
+    abbrev chosen : Maybe ℕ → Refusal → Refusal
+    chosen (Some at) r = record { number = 13; place = at }
+    chosen None r = r
+
+    weighed-unfit : (w : Maybe ℕ × ℕ) (qs : List Position) → chosen (foldl weighed w qs).0 (record { number = 0; place = 0 }) ≡ chosen w.0 (first_met (unfit qs))
+    unfolding weighed first_met unfit_at
+    weighed-unfit w [] = refl
+    weighed-unfit w (q ∷ qs) = weighed-unfit (weighed w q) qs ∙ go w.0 (is_unfit_in from (record_at L file q).total)
       where
-        go : (b : Bool)
-            → cond b (record { number = 22; place = 0 }) (record { number = 0; place = 0 }) ≡ refusal (cond b (record { number = 22; place = 0; length = 0 }) w)
-        go true = refl
-        go false = sym (nothing_said z)
+        go : (u : Maybe ℕ) (b : Bool) → chosen (option_or u (cond b (Some q.at) None)) (first_met (unfit qs)) ≡ chosen u (cond b (record { number = 13; place = q.at }) (first_met (unfit qs)))
+        go (Some at) true = refl
+        go (Some at) false = refl
+        go None true = refl
+        go None false = refl
 
-    unlimited : (w.number ≡ 0 → ⊥) → limited_to 65535 w ≡ w
-    unfolding limited_to
-    unlimited h = ap (λ b. cond (b && ltb 65535 w.length) (record { number = 22; place = 0; length = 0 }) w) (ne_eqb w.number 0 h)
+    -- what another width has of a file is its conversion, if it is the other width
+    pub is-converted : to ≡ not from → result_of from to file ≡ converted from file
+    unfolding result_of converted
+    is-converted other = ap (λ f. file_of (layout_of f) (file_records L file)) other
 
-    limit-decides : first_met (by_unfit ++ late) ≡ refusal (limited_to 65535 w)
-    limit-decides = elim (ℕ_discrete w.number 0) [
-      | yes z ↦ met-late by_unfit late (none z) ∙ last-decides z
-      | no h ↦ met-early by_unfit late (λ z. h (ap (λ (r : Refusal). r.number) first ∙ z)) ∙ sym first ∙ ap refusal (sym (unlimited h))
-    ]
+    module _ (other : to ≡ not from) where
+      known-long : known.1 ≡ length (converted from file)
+      unfolding result_of file_records
+      known-long = weighed-length (None, 0) (all from file) ∙ omega (arith, ap length (is-converted other))
 
-    limit-length : (limited_to 65535 w).number ≡ 0 → (limited_to 65535 w).length ≡ length (converted flagged file)
-    limit-length e = elim (ℕ_discrete w.number 0) [
-      | yes z ↦ go (ltb 65535 w.length) (ap (λ (v : Written). v.number) (sym (by_length z)) ∙ e) (ap (λ (v : Written). v.length) (by_length z))
-      | no h ↦ absurd (h (ap (λ (v : Written). v.number) (sym (unlimited h)) ∙ e))
-    ]
-      where
-        go : (b : Bool) → (cond {A = Written} b (record { number = 22; place = 0; length = 0 }) w).number ≡ 0
-            → (limited_to 65535 w).length ≡ (cond {A = Written} b (record { number = 22; place = 0; length = 0 }) w).length
-            → (limited_to 65535 w).length ≡ length (converted flagged file)
-        go true z r = absurd (omega arith)
-        go false z r = r ∙ long
+      known-decides : (file_refusal L file).number ≡ 0 → conversion_refusal from file ≡ limits known.0 known.1
+      known-decides ok = go known.0 (weighed-unfit (None, 0) (all from file))
+        where
+          go : (u : Maybe ℕ) → chosen u (record { number = 0; place = 0 }) ≡ first_met (unfit (all from file)) → conversion_refusal from file ≡ limits u known.1
+          go (Some at) e = unfit-decides ok (sym e) (λ z. omega (arith, z))
+          go None e =
+              length-decides ok (ap (λ (r : Refusal). r.number) (sym e)) refl
+              ∙ ap (λ n. cond (ltb 65535 n) (record { number = 22; place = 0 }) (record { number = 0; place = 0 })) (sym known-long)
 
-  -- the first pass has come to the record at p
-  pub record Weighing (p : Position) (w : Written) : Type 0 where
-    pub folding : Folding (run_file L) file weighed_at judging (foldl weighed_at unweighed all) p w
-    pub small : w.length ≤ 3 * p.at
+    abbrev judging : Refusal
+    judging = judgement (run_file L) file (all from file)
 
-  pub weighing-starts : {p : Position} {w : Written} → p ≡ start → w ≡ unweighed → Weighing p w
-  weighing-starts {p} {w} e is =
-      subst (Weighing p) (sym is)
-      (record { folding = fold-starts (run_file L) file weighed_at unweighed start e; small = omega arith })
+    -- the first walk has come to a position
+    pub record Measuring (p : Position) (u : Maybe ℕ) (n : ℕ) : Type 0 where
+      pub folding : Folding (run_file L) file weighed judging known p (u, n)
+      pub small : n ≤ 3 * p.at
 
-  -- a turn
-  module _ {p : Position} {w : Written} (s : Weighing p w) (sound : fault_at (run_file L) file p ≡ 0) {q : Position} (past : q ≡ next_of L file p) {w' : Written}
-      (is : w' ≡ weighed flagged (take (q.at - p.at) (drop p.at file)) p.at w) where
-    pub weighs : w' ≡ weighed_at w p
-    unfolding weighed weighed_at
-    weighs =
-        let end = ap (λ (r : Position). r.at) past in
-        let one = lone_is flagged file p sound end in
-        let long = ap length (rewritten-is flagged file p sound end) in
-        is
-        ∙ (λ i. cond (eqb w.number 0 && is_unfit_in flagged (one i).total) (record { number = 13; place = p.at; length = w.length + long i })
-        (record { number = w.number; place = w.place; length = w.length + long i }))
+    pub measuring-starts : {p : Position} → p ≡ start → Measuring p None 0
+    measuring-starts e = record { folding = fold-starts (run_file L) file weighed (None, 0) start e; small = omega arith }
 
-    weighed-more : w'.length ≡ w.length + length (bytes_at p)
-    unfolding weighed_at
-    weighed-more = ap (λ (v : Written). v.length) weighs ∙ go (eqb w.number 0 && is_unfit_in flagged (record_at L file p).total)
-      where
-        go : (b : Bool) → (cond {A = Written} b (caught w p) (fine w p)).length ≡ w.length + length (bytes_at p)
-        go true = refl
-        go false = refl
+    -- a record that is turned away decides
+    pub faulty-decides : length file ≤ 65535 → {p : Position} {u : Maybe ℕ} {n : ℕ} → Measuring p u n → (f : Fault)
+        → (number_of_fault f ≡ fault_at (run_file L) file p) × (place_of_fault f ≡ p.at)
+        → conversion_refusal from file ≡ record { number = number_of_fault f; place = place_of_fault f }
+    faulty-decides short s f e =
+        let is = by-records L file short (scan-refused L file f s.folding.judging e) in
+        by-file (λ z. positive f (ap (λ (r : Refusal). r.number) is ∙ z)) ∙ sym is
 
-    pub weighing-again : q.at < length file → Weighing q w'
-    weighing-again b =
-        record {
-          folding = subst (Folding (run_file L) file weighed_at judging (foldl weighed_at unweighed all) q) (sym weighs) (fold-goes-on (scannable L file) sound past s.folding b);
-          small = omega (arith, s.small, weighed-more, grows flagged file p sound (ap (λ (r : Position). r.at) past));
-        }
+    pub long-decides : 65535 < length file → conversion_refusal from file ≡ record { number = 12; place = 0 }
+    long-decides h = let is = file-is-long L file h in by-file (λ z. omega (arith, ap (λ (r : Refusal). r.number) is, z)) ∙ sym is
 
-    pub weighing-ends : length file ≤ 65535 → length file ≤ q.at
-        → (conversion_refusal flagged file ≡ refusal (limited_to 65535 w'))
-        × ((limited_to 65535 w').number ≡ 0 → (limited_to 65535 w').length ≡ length (converted flagged file))
-    weighing-ends h b =
-        let none-faulty : judging.number ≡ 0 = ap (λ (r : Refusal). r.number) (sym (judge-ends (scannable L file) sound past s.folding.judging b)) in
-        let whole = fold-ends (scannable L file) sound past s.folding b ∙ sym weighs in
-        let first = ap refusal (sym whole) ∙ known-refusal in
-        let long = ap (λ (v : Written). v.length) (sym whole) ∙ known-length in
-        (by-rest (file-accepted L file h none-faulty) ∙ limit-decides first long, limit-length first long)
+    -- a turn
+    module _ {p : Position} {u : Maybe ℕ} {n : ℕ} (s : Measuring p u n) (r : Record) {q : Position}
+        (read : (fault_at (run_file L) file p ≡ 0) × Is from file p.at (mark_at L file p.at) r × (q ≡ next_of L file p)) where
+      module _ {v : Maybe ℕ} {m : ℕ} (chosen-is : v ≡ option_or u (unfit_place from r p.at)) (long : m ≡ n + size_in to r) where
+        weighs : weighed (u, n) p ≡ (v, m)
+        unfolding weighed
+        weighs =
+            (λ i. (option_or u (cond (unfit-there from file p read.0 r read.1 i) (Some p.at) None), n + long-there from file p read.0 to r read.1 i))
+            ∙ (λ i. (sym chosen-is i, sym long i))
 
-  -- a record that is faulty decides
-  pub faulty-decides : {p : Position} {w : Written} → Weighing p w → {n : ℕ} → n ≡ fault_at (run_file L) file p → (n ≡ 0 → ⊥) → length file ≤ 65535
-      → conversion_refusal flagged file ≡ record { number = n; place = p.at }
-  unfolding conversion_refusal conversion_conditions
-  faulty-decides {p} s {n} is z h =
-      let r : record { number = n; place = p.at } ≡ file_refusal L file = by-records L file h (judge-faulty (scannable L file) s.folding.judging is z) in
-      by-file (λ e. z (ap (λ (r : Refusal). r.number) r ∙ e)) ∙ sym r
+        in-bounds : m ≤ 3 * q.at
+        in-bounds = omega (arith, long, s.small, grows r, ap (λ (x : Position). x.at) read.2, steps from file p read.0 r read.1)
 
-  -- and so does one that is too long
-  pub long-decides : 65535 < length file → conversion_refusal flagged file ≡ record { number = 12; place = 0 }
-  long-decides h = let r = file-is-long L file h in by-file (λ e. omega (arith, ap (λ (r : Refusal). r.number) r, e)) ∙ sym r
-
-  -- the second pass has come to the record at p
-  pub record Putting (out₀ : List ℕ) (p : Position) (done : ℕ) (out : List ℕ) : Type 0 where
-    pub so_far : List ℕ
-    pub folding : Folding (run_file L) file appended judging (converted flagged file) p so_far
-    pub is : out ≡ over so_far out₀
-    pub long : done ≡ length so_far
-
-  pub putting-starts : {p : Position} (out₀ : List ℕ) → p ≡ start → Putting out₀ p 0 out₀
-  putting-starts {p} out₀ e =
-      record {
-        so_far = [];
-        folding = subst (λ r. Folding (run_file L) file appended judging r p []) is-converted (fold-starts (run_file L) file appended [] start e);
-        is = sym (over_none out₀);
-        long = refl;
-      }
-
-  -- a turn
-  module _ {out₀ : List ℕ} {p : Position} {done : ℕ} {out : List ℕ} (s : Putting out₀ p done out) (accepted : judging.number ≡ 0)
-      (fits : length (converted flagged file) ≤ length out₀) where
-    pub putting-sound : fault_at (run_file L) file p ≡ 0
-    putting-sound = fold-sound s.folding accepted
-
-    next_fits : length (s.so_far ++ bytes_at p) ≤ length (converted flagged file)
-    next_fits = subst (λ l. length (s.so_far ++ bytes_at p) ≤ length l) (sym s.folding.folding.rest) (first-in s.so_far p s.folding.folding.fuel)
-
-    pub same-long : length out ≡ length out₀
-    same-long =
-        ap length s.is ∙ over-length s.so_far out₀ (omega (arith, next_fits, length-append s.so_far (bytes_at p)))
-
-    pub done-inside : done ≤ length out
-    done-inside =
-        omega (arith, s.long, next_fits, length-append s.so_far (bytes_at p), same-long)
-
-    module _ {q : Position} (past : q ≡ next_of L file p) where
-      abbrev lent : List ℕ
-      lent = take (q.at - p.at) (drop p.at file)
-
-      written-here : rewritten flagged lent ≡ bytes_at p
-      written-here = rewritten-is flagged file p putting-sound (ap (λ (r : Position). r.at) past)
-
-      pub done-small : done + length (rewritten flagged lent) ≤ length (converted flagged file)
-      done-small = omega (arith, ap length written-here, s.long, next_fits, length-append s.so_far (bytes_at p))
-
-      pub has_room : length (rewritten flagged lent) ≤ length (take (length out - done) (drop done out))
-      has_room = end-room (length (rewritten flagged lent)) done out (omega (arith, done-small, same-long))
-
-      module _ {n : ℕ} {part out' : List ℕ} (count : n ≡ length (rewritten flagged lent))
-          (put : part ≡ over (rewritten flagged lent) (take (length out - done) (drop done out)))
-          (left : out' ≡ take done out ++ (part ++ drop (length out - done) (drop done out))) where
-        stands : out' ≡ over (appended s.so_far p) out₀
-        unfolding appended
-        stands =
-            left ∙ behind s.so_far (rewritten flagged lent) out₀ out part done (sym s.long) s.is put
-            ∙ ap (λ l. over (s.so_far ++ l) out₀) written-here
-
-        pub putting-long : length out' ≡ length out₀
-        unfolding appended
-        putting-long = ap length stands ∙ over-length (s.so_far ++ bytes_at p) out₀ (omega (arith, next_fits))
-
-        pub putting-again : q.at < length file → Putting out₀ q (done + n) out'
-        unfolding appended
-        putting-again b =
+        pub measuring-again : q.at < length file → Measuring q v m
+        measuring-again b =
             record {
-              so_far = appended s.so_far p;
-              folding = fold-goes-on (scannable L file) putting-sound past s.folding b;
-              is = stands;
-              long = omega (arith, count, ap length written-here, s.long, length-append s.so_far (bytes_at p));
+              folding = subst (Folding (run_file L) file weighed judging known q) weighs (fold-goes-on (scannable L file) read.0 read.2 s.folding b);
+              small = in-bounds;
             }
 
-        pub putting-ends : length file ≤ q.at → out' ≡ over (converted flagged file) out₀
-        putting-ends b = stands ∙ ap (λ l. over l out₀) (sym (fold-ends (scannable L file) putting-sound past s.folding b))
+        pub measuring-ends : to ≡ not from → length file ≤ 65535 → length file ≤ q.at → (a : Result ℕ Reason) → Limits v m a → Measured from file a
+        measuring-ends other short b a l =
+            let whole = fold-ends (scannable L file) read.0 read.2 s.folding b ∙ weighs in
+            let ok = file-accepted L file short (ap (λ (x : Refusal). x.number) (sym (judge-ends (scannable L file) read.0 read.2 s.folding.judging b))) in
+            go a l (known-decides other ok ∙ (λ i. limits (whole i).0 (whole i).1)) (ap (λ (w : Maybe ℕ × ℕ). w.1) (sym whole) ∙ known-long other)
+          where
+            go : (a : Result ℕ Reason) → Limits v m a → conversion_refusal from file ≡ limits v m → m ≡ length (converted from file) → Measured from file a
+            go (Ok k) l e long = (ap (λ (x : Refusal). x.number) (e ∙ l.0), l.1 ∙ long)
+            go (Err why) l e long = e ∙ l
 
-  -- the same, where the offset of the record is all that is kept of its position
-  pub record PuttingAt (out₀ : List ℕ) (at done : ℕ) (out : List ℕ) : Type 0 where
-    pub position : Position
-    pub place : at ≡ position.at
-    pub putting : Putting out₀ position done out
+      pub size-bounds : length file ≤ 65535 → n + size_in to r ≤ 196605
+      size-bounds short =
+          omega (
+            arith,
+            in-bounds {v = option_or u (unfit_place from r p.at)} {m = n + size_in to r} refl refl,
+            ap (λ (x : Position). x.at) read.2,
+            next-inside from file p read.0,
+          )
 
-  pub putting-at-starts : (out₀ : List ℕ) → PuttingAt out₀ 0 0 out₀
-  putting-at-starts out₀ = record { position = start; place = refl; putting = putting-starts out₀ refl }
+    -- the second has come to an offset: what is written, and what is left, is the result
+    pub record Writing (old rest : List ℕ) (done : ℕ) (out : List ℕ) : Type 0 where
+      pub at : ℕ
+      pub from_there : rest ≡ drop at file
+      pub left : List Position
+      pub remains : Remains L file at left
+      pub so_far : List ℕ
+      pub is : out ≡ over so_far old
+      pub long : done ≡ length so_far
+      pub whole : so_far ++ others left ≡ result_of from to file
 
-  module _ {out₀ : List ℕ} {at done : ℕ} {out : List ℕ} (s : PuttingAt out₀ at done out) (accepted : judging.number ≡ 0)
-      (fits : length (converted flagged file) ≤ length out₀) where
-    abbrev p : Position
-    p = s.position
+    pub writing-starts : (old : List ℕ) → (file_refusal L file).number ≡ 0 → Writing old file 0 old
+    unfolding result_of file_records
+    writing-starts old ok =
+        record {
+          at = 0;
+          from_there = refl;
+          left = all from file;
+          remains = at-first from file ok;
+          so_far = [];
+          is = sym (over_none old);
+          long = refl;
+          whole = refl;
+        }
 
-    not-faulty : fault_at (run_file L) file p ≡ 0
-    not-faulty = putting-sound s.putting accepted fits
+    module _ {old rest : List ℕ} {done : ℕ} {out : List ℕ} (s : Writing old rest done out) (fits : length (result_of from to file) ≤ length old) (b : Bytes file) where
+      so-far : length s.so_far + length (others s.left) ≡ length (result_of from to file)
+      so-far = sym (length-append s.so_far (others s.left)) ∙ ap length s.whole
 
-    pub at-inside : at ≤ length file
-    at-inside = omega (arith, s.place, within (sound L file p refl not-faulty))
+      same-long : length out ≡ length old
+      same-long = ap length s.is ∙ over-length s.so_far old (omega (arith, so-far))
 
-    pub done-within : done ≤ length out
-    done-within = done-inside s.putting accepted fits
+      module _ (r : Record) (w : Whole from rest (mark_at L rest 0)) (is : Is from rest 0 (mark_at L rest 0) r) where
+        h : Here from file s.at s.left r
+        h = here from file s.at s.from_there s.remains r w is
 
-    abbrev from-here-on : List ℕ
-    from-here-on = take (length file - at) (drop at file)
+        module _ (other : (t : _) → r ≡ Schedule t → ⊥) where
+          rest-is : others s.left ≡ rewritten to r ++ others h.rest
+          unfolding file_of
+          rest-is = ap others h.is ∙ ap (λ l. l ++ others h.rest) (anew from file h.p h.ok to b r h.holds other)
 
-    all-of-it : from-here-on ≡ drop p.at file
-    all-of-it = take_all (length file - at) (drop at file) (omega (arith, length-drop at file)) ∙ ap (λ n. drop n file) s.place
+          pub has_room : done + size_in to r ≤ length out
+          has_room =
+              omega (arith, s.long, so-far, same-long, ap length rest-is, length-append (rewritten to r) (others h.rest), rewritten-long to r other)
 
-    pub mark-inside : at + 2 ≤ length file
-    mark-inside = omega (arith, s.place, within (sound L file p refl not-faulty))
-
-    module _ {m : Mark} (told : m ≡ mark_at L (take (at + 2 - at) (drop at file)) 0) where
-      mark-is : m ≡ mark_at L file p.at
-      mark-is = told ∙ mark-agrees (part-agrees 2 file at) (omega arith) L ∙ ap (mark_at L file) s.place
-
-      -- a record that counts no others
-      module _ (plain : (row L m).counted ≡ false) {n : ℕ} (size : n ≡ (row L m).size) where
-        pub end_is : at + n ≡ (next_of L file p).at
-        unfolding next_of past
-        end_is =
-            (λ i. s.place i + size i)
-            ∙ ap (λ k. p.at + k) (sym (ap (λ b. cond b (byte_at file (p.at + 2) + (row L m).size) (row L m).size) plain) ∙ ap (size_of L file p.at) mark-is)
-
-        abbrev here : List ℕ
-        here = take (at + n - at) (drop at file)
-
-        is-lent : here ≡ take ((next_of L file p).at - p.at) (drop p.at file)
-        is-lent = λ i. take (end_is i - s.place i) (drop (s.place i) file)
-
-        pub end-inside : (at ≤ at + n) × (at + n ≤ length file)
-        end-inside = let h = lent-inside flagged file p not-faulty refl in (omega arith, omega (arith, end_is, h))
-
-        pub size-some : 0 < n
-        size-some = omega (arith, end_is, s.place, (scannable L file).onward p not-faulty)
-
-        pub here-whole : length file ≤ 65535 → Whole flagged here
-        here-whole h = subst (Whole flagged) (sym is-lent) (lent-whole flagged file p not-faulty refl h)
-
-        pub here-plain : Plain flagged here m
-        here-plain =
-            record { told = mark-is ∙ sym (lent-mark flagged file p not-faulty refl) ∙ ap (λ l. mark_at L l 0) (sym is-lent); alone = plain }
-
-        pub here-fits : length (rewritten flagged here) ≤ length (take (length out - done) (drop done out))
-        here-fits =
-            subst (λ l. length (rewritten flagged l) ≤ length (take (length out - done) (drop done out))) (sym is-lent) (has_room s.putting accepted fits refl)
-
-        pub here-small : done + length (rewritten flagged here) ≤ length (converted flagged file)
-        here-small = subst (λ l. done + length (rewritten flagged l) ≤ length (converted flagged file)) (sym is-lent) (done-small s.putting accepted fits refl)
-
-        module _ {k : ℕ} {part out' : List ℕ} (count : k ≡ length (rewritten flagged here))
-            (put : part ≡ over (rewritten flagged here) (take (length out - done) (drop done out)))
-            (left : out' ≡ take done out ++ (part ++ drop (length out - done) (drop done out))) where
-          count' : k ≡ length (rewritten flagged (take ((next_of L file p).at - p.at) (drop p.at file)))
-          count' = count ∙ ap (λ l. length (rewritten flagged l)) is-lent
-
-          put' : part ≡ over (rewritten flagged (take ((next_of L file p).at - p.at) (drop p.at file))) (take (length out - done) (drop done out))
-          put' = put ∙ ap (λ l. over (rewritten flagged l) (take (length out - done) (drop done out))) is-lent
-
-          pub kept-long : length out' ≡ length out₀
-          kept-long = putting-long s.putting accepted fits refl count' put' left
-
-          pub at_again : at + n < length file → PuttingAt out₀ (at + n) (done + k) out'
-          at_again b =
+          pub writing-again : {part : List ℕ} → part ≡ over (rewritten to r) (take (length out - done) (drop done out))
+              → Writing old (take (length rest - size_in from r) (drop (size_in from r) rest)) (done + size_in to r)
+              (take done out ++ (part ++ drop (length out - done) (drop done out)))
+          writing-again {part} put =
               record {
-                position = next_of L file p;
-                place = end_is;
-                putting = putting-again s.putting accepted fits refl count' put' left (omega (arith, end_is));
+                at = s.at + size_in from r;
+                from_there = tail (size_in from r) rest ∙ ap (drop (size_in from r)) s.from_there ∙ drop-drop (size_in from r) s.at file;
+                left = h.rest;
+                remains = beyond_at from file h (moves from file h);
+                so_far = s.so_far ++ rewritten to r;
+                is = behind s.so_far (rewritten to r) old out part done (sym s.long) s.is put;
+                long = omega (arith, s.long, length-append s.so_far (rewritten to r), rewritten-long to r other);
+                whole = append_assoc s.so_far (rewritten to r) (others h.rest) ∙ ap (λ l. s.so_far ++ l) (sym rest-is) ∙ s.whole;
               }
 
-          pub at-ends : length file ≤ at + n → out' ≡ over (converted flagged file) out₀
-          at-ends b = putting-ends s.putting accepted fits refl count' put' left (omega (arith, end_is))
+        module _ {t : _} (e : r ≡ Schedule t) where
+          kept : others s.left ≡ rest
+          kept =
+              rest-kept from to file b h.chain (subst (Is from file h.p.at (mark_at L file h.p.at)) e h.holds).0
+              ∙ ap (λ n. drop n file) (sym h.place) ∙ sym s.from_there
 
-      -- one that does is an SC record, and only such follow
-      module _ (counts : (row L m).counted ≡ true) (bytes : Bytes file) where
-        is-schedule : (k : Mark) → (row L k).counted ≡ true → k ≡ Schedule
-        is-schedule Table e = absurd (true≢false (sym e))
-        is-schedule Cell e = absurd (true≢false (sym e))
-        is-schedule Operation e = absurd (true≢false (sym e))
-        is-schedule Schedule e = refl
-        is-schedule Unknown e = absurd (true≢false (sym e))
+          pub entries-fit : done + length rest ≤ length out
+          entries-fit = omega (arith, s.long, so-far, same-long, ap length kept)
 
-        abbrev judged-from : Left (run_file L) file (judgement (run_file L) file) judging p
-        judged-from = s.putting.folding.judging
+          pub writing-entries : {part : List ℕ} → part ≡ rest
+              → take done out ++ (part ++ drop (done + length rest - done) (drop done out)) ≡ over (result_of from to file) old
+          unfolding over
+          writing-entries {part} put =
+              let all : done + length rest - done ≡ length rest = omega arith in
+              (λ i. take done out ++ (put i ++ drop (all i) (drop done out)))
+              ∙ ap (λ o. take done o ++ over rest (drop done o)) s.is
+              ∙ over-more s.so_far rest old done (sym s.long)
+              ∙ ap (λ l. over l old) (ap (λ l. s.so_far ++ l) (sym kept) ∙ s.whole)
 
-        abbrev folded_from : Left (run_file L) file (foldl appended s.putting.so_far) (converted flagged file) p
-        folded_from = s.putting.folding.folding
-
-        chain : Chain L file p (records_from (run_file L) file (suc judged-from.fuel) p)
-        chain = chain-from L file judged-from.fuel p judged-from.enough (ap (λ (r : Refusal). r.number) (sym judged-from.rest) ∙ accepted)
-
-        rest-is : converted flagged file ≡ s.putting.so_far ++ drop p.at file
-        rest-is =
-            folded_from.rest
-            ∙ ap (foldl appended s.putting.so_far) (chain-records L file chain folded_from.fuel folded_from.enough)
-            ∙ all-appended s.putting.so_far (records_from (run_file L) file (suc judged-from.fuel) p)
-            ∙ ap (◌++◌ s.putting.so_far) (rest-kept flagged (not flagged) file bytes chain (sym mark-is ∙ is-schedule m counts))
-
-        pub rest-fits : length from-here-on ≤ length (take (length out - done) (drop done out))
-        rest-fits =
-            end-room (length from-here-on) done out
-            (omega
-            (arith, ap length all-of-it, ap length rest-is, length-append s.putting.so_far (drop p.at file), s.putting.long, same-long s.putting accepted fits))
-
-        pub rest-long : {out' : List ℕ} → out' ≡ over (converted flagged file) out₀ → length out' ≡ length out₀
-        rest-long e = ap length e ∙ over-length (converted flagged file) out₀ fits
-
-        pub rest-ends : {part out' : List ℕ} → part ≡ over from-here-on (take (length out - done) (drop done out))
-            → out' ≡ take done out ++ (part ++ drop (length out - done) (drop done out)) → out' ≡ over (converted flagged file) out₀
-        rest-ends {part} put left =
-            left ∙ behind s.putting.so_far from-here-on out₀ out part done (sym s.putting.long) s.putting.is put
-            ∙ ap (λ l. over (s.putting.so_far ++ l) out₀) all-of-it
-            ∙ ap (λ l. over l out₀) (sym rest-is)
+      pub writing-done : (Whole from rest (mark_at L rest 0) → ⊥) → out ≡ over (result_of from to file) old
+      unfolding file_of
+      writing-done cut =
+          s.is ∙ ap (λ l. over l old) (sym (append-nil s.so_far) ∙ ap (λ ps. s.so_far ++ others ps) (sym (none-left from file s.at s.from_there s.remains cut)) ∙ s.whole)

@@ -1,364 +1,304 @@
-// Old run files to wide ones and back (document 02, "A5"). First a file is gone along by the reader's own
-// scan, judged record by record, and its result measured, so that a refusal writes nothing; then each
-// record is written in the layout of the other width, and what is the same at both is copied. The width of
-// the file that is read is told by flagged, as in the scan: false converts up, true down. Nothing that
-// the run judges is judged here.
+// Old run files to wide ones and back: from files of one width to files of the other. A file is judged as its
+// reader judges it, and its result measured, so that a refusal writes nothing; then each record is written as
+// the other width has it, and the entries, which are the same at both, are copied. Nothing that the run
+// judges is judged here.
 #![tactic(auto)]
 
-ghost use Rattle.std.specs.Prelude.{◌≡◌, Bool, true, false, cond, not, ◌+◌, ◌-◌, ◌*◌, ◌≤◌, length, take, drop};
+ghost use Rattle.std.specs.Prelude.{◌≡◌, true, false, not, ◌≤◌, ◌%◌, ◌/◌, length};
+ghost use Rattle.std.specs.Option.{option_or};
 ghost use Rattle.io.specs.Counts.{IsPrefixLen};
 ghost use Rattle.semantics.specs.Run.{over};
-ghost use Rattle.semantics.specs.RunFile.{layout_of, row, longest_file};
-ghost use Rattle.semantics.specs.Convert.{is_unfit, converted, conversion_refusal, conversion, conversion_text, Faithful};
-ghost use Rattle.convert.specs.Weighed.{mark_of, Whole, Plain, part_total, head_size, weighed, rewritten, limited_to};
+ghost use Rattle.semantics.specs.Convert.{is_unfit, is_unfit_in, conversion_refusal, conversion, conversion_text, Faithful};
+ghost use Rattle.semantics.specs.RunFile.{layout_of, file_refusal};
+ghost use Rattle.semantics.specs.Listing.{refusal_text};
+ghost use Rattle.listing.specs.Writing.{written as text_written};
+ghost use Rattle.convert.specs.declared.Reason.TheVariants.{Reader};
+ghost use Rattle.convert.specs.Rewritten.{total_of, unfit_place, size_in, rewritten, result_of};
+ghost use Rattle.convert.specs.Reasons.{number_of, place_of, written, Limits, Measured};
 
-use lines::counts::put_refusal;
-use packing::low_8;
-use record::fields::{mark_at, total_in, total_size};
-use runfile::scan::{judge, start};
-use semantics::{MOST_BYTES, Mark, Total, Written};
+use listing::put_refusal;
+use runfile::record::{Fault, Record, read_record, record_at};
+use runfile::start;
+use semantics::{MOST_BYTES, Total, Written};
+use word::Word;
 
-// A slice's bytes, over the front of another that is no shorter.
-fn copy(from: &[u8], to: &mut [u8])
-    requires { length from.now ≤ length to.old }
-    ensures { to.new ≡ over from.now to.old }
-{
-    let mut i = 0;
-    while i < from.len() {
-        to[i] = from[i];
-        i = i + 1;
+// Why a file is not converted: its reader turns it away; the record at an offset has a total that the other
+// width has not; the result is too long for a file; the slice is too short for the result.
+// Number and place are its own, and of no trait: no function is generic over the enums of reasons.
+#[derive(Clone, Copy)]
+enum Reason {
+    Reader(Fault),
+    Unfit(usize),
+    TooLong,
+    TooShort,
+}
+
+impl Reason {
+    fn number(self) -> u32
+        ensures { result ≡ number_of self }
+    {
+        match self {
+            Reason::Reader(fault) => fault.number(),
+            Reason::Unfit(_) => 13,
+            Reason::TooLong => 22,
+            Reason::TooShort => 3,
+        }
+    }
+
+    fn place(self) -> usize
+        ensures { result ≡ place_of self }
+    {
+        match self {
+            Reason::Reader(fault) => fault.place(),
+            Reason::Unfit(at) => at,
+            Reason::TooLong | Reason::TooShort => 0,
+        }
     }
 }
 
-// How many bytes at the end of a record are a total or an amount, by its part of the file: those of cells
-// and operations have one.
-fn total_part(part: usize, flagged: bool) -> usize
-    ensures { result ≡ part_total (layout_of flagged) part }
-{
-    if part == 2 {
-        return total_size(flagged);
+impl From<Fault> for Reason {
+    ghost from_gives = { λ f r. r ≡ Reader f };
+
+    fn from(fault: Fault) -> Reason {
+        Reason::Reader(fault)
     }
-    if part == 3 {
-        return total_size(flagged);
-    }
-    0
 }
 
-// 13: going down, a total or an amount that no narrow file has.
+// 13: a total of a wide file that no narrow file has. (It asks the width itself, here and in put_total: what a file
+// holds is no matter of the trait of words, so a method there would be no plainer.)
 #[tactic(auto, unfolding(semantics::specs::Convert::is_unfit))]
-fn is_unfit(total: Total, flagged: bool) -> bool
-    ensures { result ≡ is_unfit flagged total }
+fn is_unfit<From: Word>(total: Total) -> bool
+    ensures { result ≡ is_unfit From.flagged total }
 {
-    if flagged {
-        if total.saturated {
-            return total.amount != 65535;
-        }
-        return 65535 <= total.amount;
+    if !From::is_flagged() {
+        return false;
     }
-    false
-}
-
-// What a record adds to what is known of the result: its length, and the first record that has no place in
-// it. The record is lent by itself, and stands at an offset of its file.
-#[tactic(auto, using(crate::proofs::Rewritten::late))]
-fn weigh(bytes: &[u8], flagged: bool, part: usize, at: usize, known: Written) -> Written
-    requires { Whole flagged bytes.now × (part ≡ (row (layout_of flagged) (mark_of flagged bytes.now)).part) × (known.length ≤ 3 * longest_file) }
-    ensures { result ≡ weighed flagged bytes.now at known }
-{
-    let head = bytes.len() - total_part(part, flagged);
-    let length = known.length + (head + total_part(part, !flagged));
-    if known.number == 0 {
-        if head < bytes.len() {
-            if is_unfit(total_in(&bytes[head..], flagged), flagged) {
-                return Written {
-                    number: 13,
-                    place: at,
-                    length: length,
-                };
-            }
-        }
-    }
-    Written {
-        number: known.number,
-        place: known.place,
-        length: length,
+    if total.saturated {
+        total.amount != 65535
+    } else {
+        65535 <= total.amount
     }
 }
 
-// 22, where nothing came before it: a result that is too long for a file.
-#[tactic(auto, unfolding(crate::specs::Weighed::limited_to))]
-fn limited(found: Written) -> Written
-    ensures { result ≡ limited_to longest_file found }
+#[tactic(auto, unfolding(semantics::specs::Convert::is_unfit_in))]
+fn holds_unfit<From: Word>(found: Record<'_>) -> bool
+    ensures { result ≡ is_unfit_in From.flagged (total_of found.entry) }
 {
-    if found.number == 0 {
-        if MOST_BYTES < found.length {
-            return Written {
-                number: 22,
-                place: 0,
-                length: 0,
-            };
-        }
+    match found {
+        Record::Cell { total, .. } => is_unfit::<From>(total),
+        Record::Operation { amount, .. } => is_unfit::<From>(amount),
+        Record::Table(_) | Record::Schedule(_) => false,
     }
-    found
 }
 
-// Why a file is not converted, number 0 and place 0 if it is; and how long the result is.
-fn measure(file: &[u8], flagged: bool) -> Written
-    ensures file_value { conversion_refusal flagged file.now ≡ record { number = result.number; place = result.place } }
-    ensures length_value { result.number ≡ 0 → result.length ≡ length (converted flagged file.now) }
+// The place of the first record that is unfit, after one more.
+fn first_unfit<From: Word>(unfit: Option<usize>, found: Record<'_>, at: usize) -> Option<usize>
+    ensures { result ≡ option_or unfit (unfit_place From.flagged found.entry at) }
 {
-    if MOST_BYTES < file.len() {
-        return Written {
-            number: 12,
-            place: 0,
-            length: 0,
-        };
+    if holds_unfit::<From>(found) {
+        unfit.or(Some(at))
+    } else {
+        unfit
+    }
+}
+
+// How many bytes a record has.
+// The reader asks for each size where it knows the record, and this at the other width too.
+fn size<W: Word>(found: Record<'_>) -> usize
+    ensures { result ≡ size_in W.flagged found.entry }
+{
+    match found {
+        Record::Table(_) => 3,
+        Record::Cell { .. } => W::total_bytes() + 6,
+        Record::Operation { .. } => W::total_bytes() + 5,
+        Record::Schedule(entries) => entries.len() + 3,
+    }
+}
+
+// 13 at the first record that is unfit, 22 for a result that is too long for a file, or its length.
+fn limited(unfit: Option<usize>, length: usize) -> Result<usize, Reason>
+    ensures { Limits unfit length result }
+{
+    if let Some(at) = unfit {
+        return Err(Reason::Unfit(at));
+    }
+    if length > MOST_BYTES {
+        return Err(Reason::TooLong);
+    }
+    Ok(length)
+}
+
+// How long the result is. All refusals but that of the slice are found in one walk over the records: the
+// reader's come first, so an unfit record is kept in mind to the end. (A loop: where a record begins is known when the
+// one before it has been read. An iterator would carry position and refusal, and is no plainer.)
+// That the widths differ is asked in three places: a type for a pair of them would have two impls that say no more.
+fn measure<From: Word, To: Word>(file: &[u8]) -> Result<usize, Reason>
+    requires { To.flagged ≡ not From.flagged }
+    ensures { Measured From.flagged file.now result }
+{
+    if file.len() > MOST_BYTES {
+        return Err(Reason::Reader(Fault::TooLong));
     }
     let mut position = start();
-    let mut found = Written {
-        number: 0,
-        place: 0,
-        length: 0,
-    };
+    let mut unfit = None;
+    let mut length = 0;
     loop {
-        let judged = judge(file, flagged, position);
-        let at = position.at;
-        if judged.number != 0 {
-            return Written {
-                number: judged.number,
-                place: at,
-                length: 0,
-            };
+        let (found, next) = read_record::<From>(file, position)?;
+        unfit = first_unfit::<From>(unfit, found, position.at);
+        length += size::<To>(found);
+        if file.len() <= next.at {
+            return limited(unfit, length);
         }
-        let next = judged.next;
-        let end = next.at;
-        found = weigh(&file[at..end], flagged, next.part, at, found);
         position = next;
-        if file.len() <= end {
-            return limited(found);
+    }
+}
+
+// The bytes of a total, over the front of a slice. (That there is room is asked of the caller, by this function, put_record
+// and rewrite, each for its own length: convert has measured the whole.)
+#[tactic(auto, unfolding(semantics::specs::Run::over))]
+fn put_total<W: Word>(total: Total, out: &mut [u8])
+    requires { (layout_of W.flagged).total_size ≤ length out.old }
+    ensures { out.new ≡ over ((layout_of W.flagged).total_bytes total) out.old }
+{
+    let [first, second, third, last] = total.amount.to_be_bytes();
+    if W::is_flagged() {
+        out[..5].copy_from_slice(&[total.saturated as u8, first, second, third, last]);
+    } else {
+        out[..2].copy_from_slice(&[third, last]);
+    }
+}
+
+// A record as a width has it, over the front of a slice. Entries are not written here. (Its mark is copied with the
+// numbers after it: copied apart, a cell takes 14 instructions more to widen, and 16 to narrow.)
+#[tactic(auto, unfolding(semantics::specs::Text::text, semantics::specs::Run::over))]
+fn put_record<W: Word>(found: Record<'_>, out: &mut [u8])
+    requires { size_in W.flagged found ≤ length out.old }
+    ensures { out.new ≡ over (rewritten W.flagged found.entry) out.old }
+{
+    match found {
+        Record::Table(k) => {
+            let [first, second] = W::table_mark();
+            out[..3].copy_from_slice(&[first, second, k]);
         }
-    }
-}
-
-// The letters of a mark, over the front of a slice. The table's are the ones that tell the widths apart.
-#[tactic(auto, unfolding(semantics::specs::Run::over, semantics::specs::Text::text))]
-fn put_mark(out: &mut [u8], mark: Mark, flagged: bool)
-    requires { 2 ≤ length out.old }
-    ensures { out.new ≡ over (row (layout_of flagged) mark).letters out.old }
-{
-    match mark {
-        Mark::Table => {
-            if flagged {
-                copy(b"TW", out);
-                return;
-            }
-            copy(b"TB", out);
+        Record::Cell { at, key, total } => {
+            let [at_high, at_low] = at.to_be_bytes();
+            let [key_high, key_low] = key.to_be_bytes();
+            let [c, l] = *b"CL";
+            out[..6].copy_from_slice(&[c, l, at_high, at_low, key_high, key_low]);
+            put_total::<W>(total, &mut out[6..]);
         }
-        Mark::Cell => {
-            copy(b"CL", out);
+        Record::Operation { kind, key, amount } => {
+            let [key_high, key_low] = key.to_be_bytes();
+            let [o, p] = *b"OP";
+            out[..5].copy_from_slice(&[o, p, kind, key_high, key_low]);
+            put_total::<W>(amount, &mut out[5..]);
         }
-        Mark::Operation => {
-            copy(b"OP", out);
-        }
-        Mark::Schedule => {
-            copy(b"SC", out);
-        }
-        Mark::Unknown => {}
+        Record::Schedule(_) => {}
     }
 }
 
-// The bytes of a total, over the front of a slice, as a width has them.
-fn put_total(out: &mut [u8], total: Total, flagged: bool)
-    requires { (layout_of flagged).total_size ≤ length out.old }
-    ensures { out.new ≡ over ((layout_of flagged).total_bytes total) out.old }
+// The result. Entries come last and are the same at both widths: they are copied at once. (A loop from record to
+// record, as in measure.)
+fn rewrite<From: Word, To: Word>(file: &[u8], out: &mut [u8])
+    requires sound { (file_refusal (layout_of From.flagged) file.now).number ≡ 0 }
+    requires room { length (result_of From.flagged To.flagged file.now) ≤ length out.old }
+    ensures { out.new ≡ over (result_of From.flagged To.flagged file.now) out.old }
 {
-    let amount = total.amount as u64;
-    if flagged {
-        let flag: u8 = if total.saturated { 1 } else { 0 };
-        copy(
-            &[
-                flag,
-                low_8(amount >> 24),
-                low_8(amount >> 16),
-                low_8(amount >> 8),
-                low_8(amount),
-            ],
-            out,
-        );
-        return;
-    }
-    copy(&[low_8(amount >> 8), low_8(amount)], out);
-}
-
-// What stands between a mark and a total, over the front of a slice. Of cells and operations all of it is
-// read before any is written, so that it is one load and one store.
-fn put_body(bytes: &[u8], head: usize, out: &mut [u8])
-    requires { (2 ≤ head) × (head ≤ length bytes.now) × (head ≤ length out.old + 2) }
-    ensures { out.new ≡ over (take (head - 2) (drop 2 bytes.now)) out.old }
-{
-    if head == 6 {
-        copy(&[bytes[2], bytes[3], bytes[4], bytes[5]], out);
-        return;
-    }
-    if head == 5 {
-        copy(&[bytes[2], bytes[3], bytes[4]], out);
-        return;
-    }
-    copy(&bytes[2..head], out);
-}
-
-// A record in the layout of the other width, over the front of a slice; and how many bytes it has there.
-// Mark and total are written anew, and what stands between them is copied.
-fn put_parts(bytes: &[u8], flagged: bool, mark: Mark, head: usize, out: &mut [u8]) -> usize
-    requires { Whole flagged bytes.now × Plain flagged bytes.now mark × (head ≡ head_size mark) × (length (rewritten flagged bytes.now) ≤ length out.old) }
-    ensures { (result ≡ length (rewritten flagged bytes.now)) × (out.new ≡ over (rewritten flagged bytes.now) out.old) }
-{
-    put_mark(out, mark, !flagged);
-    put_body(bytes, head, &mut out[2..]);
-    if head == bytes.len() {
-        return head;
-    }
-    put_total(
-        &mut out[head..],
-        total_in(&bytes[head..], flagged),
-        !flagged,
-    );
-    head + total_size(!flagged)
-}
-
-// How many bytes of a record stand before its total or amount, and before what it counts.
-fn head_of(mark: Mark) -> usize
-    ensures { result ≡ head_size mark }
-{
-    match mark {
-        Mark::Table => 3,
-        Mark::Cell => 6,
-        Mark::Operation => 5,
-        Mark::Schedule => 3,
-        Mark::Unknown => 2,
-    }
-}
-
-// The same, where the mark says how many bytes stand before the total. Most records are cells: with their
-// number known, nothing is computed of it.
-fn put_record(bytes: &[u8], flagged: bool, mark: Mark, out: &mut [u8]) -> usize
-    requires { Whole flagged bytes.now × Plain flagged bytes.now mark × (length (rewritten flagged bytes.now) ≤ length out.old) }
-    ensures { (result ≡ length (rewritten flagged bytes.now)) × (out.new ≡ over (rewritten flagged bytes.now) out.old) }
-{
-    let head = head_of(mark);
-    if head == 6 {
-        return put_parts(bytes, flagged, mark, 6, out);
-    }
-    put_parts(bytes, flagged, mark, head, out)
-}
-
-// How many bytes a record has, by its mark: of one that counts others, those before them.
-fn size_of(mark: Mark, flagged: bool) -> usize
-    ensures { result ≡ (row (layout_of flagged) mark).size }
-{
-    match mark {
-        Mark::Table => 3,
-        Mark::Cell => total_size(flagged) + 6,
-        Mark::Operation => total_size(flagged) + 5,
-        Mark::Schedule => 3,
-        Mark::Unknown => 2,
-    }
-}
-
-// Whether a record counts others that follow.
-fn is_counted(mark: Mark, flagged: bool) -> bool
-    ensures { result ≡ (row (layout_of flagged) mark).counted }
-{
-    match mark {
-        Mark::Table => false,
-        Mark::Cell => false,
-        Mark::Operation => false,
-        Mark::Schedule => true,
-        Mark::Unknown => false,
-    }
-}
-
-// The records of a file that is converted, one behind another. Those that count others come last and are
-// the same at both widths: they are copied as they are, all at once. A mark is lent at its known size, so
-// that no offset is tested again.
-fn put_file(file: &[u8], flagged: bool, out: &mut [u8])
-    requires { ((conversion_refusal flagged file.now).number ≡ 0) × (length (converted flagged file.now) ≤ length out.old) }
-    ensures { out.new ≡ over (converted flagged file.now) out.old }
-{
-    let mut at = 0;
+    let mut rest = file;
     let mut done = 0;
-    loop {
-        let mark = mark_at(&file[at..at + 2], 0, flagged);
-        if is_counted(mark, flagged) {
-            copy(&file[at..], &mut out[done..]);
+    while let Some(found) = record_at::<From>(rest, 0) {
+        if let Record::Schedule(_) = found {
+            out[done..done + rest.len()].copy_from_slice(rest);
             return;
         }
-        let end = at + size_of(mark, flagged);
-        done = done + put_record(&file[at..end], flagged, mark, &mut out[done..]);
-        if file.len() <= end {
-            return;
-        }
-        at = end;
+        put_record::<To>(found, &mut out[done..]);
+        done += size::<To>(found);
+        rest = &rest[size::<From>(found)..];
     }
 }
 
-// Judges and measures a file, and then writes it; in either direction.
-#[tactic(auto, using(crate::proofs::Answers::answered))]
-fn convert(file: &[u8], flagged: bool, out: &mut [u8]) -> Written
-    ensures out_value { conversion flagged file.now out.old ≡ record { written = result; out = out.new } }
-    ensures faithful { (conversion_refusal flagged file.now).number ≡ 0 → Faithful flagged file.now }
-    ensures fact { flagged ≡ true → result.number ≡ 22 → ⊥ }
+// From one width to the other: whole, over the front of the slice, or not at all.
+#[tactic(auto, using(crate::proofs::Answers::short_told))]
+fn convert<From: Word, To: Word>(file: &[u8], out: &mut [u8]) -> Result<usize, Reason>
+    requires { To.flagged ≡ not From.flagged }
+    ensures { conversion From.flagged file.now out.old ≡ record { written = written result; out = out.new } }
 {
-    let found = measure(file, flagged);
-    if found.number == 0 {
-        let length = found.length;
-        if out.len() < length {
-            return Written {
-                number: 3,
-                place: 0,
-                length: 0,
-            };
-        }
-        put_file(file, flagged, out);
-        return Written {
+    let length = measure::<From, To>(file)?;
+    if out.len() < length {
+        return Err(Reason::TooShort);
+    }
+    rewrite::<From, To>(file, out);
+    Ok(length)
+}
+
+// What a call from C is told: a fixed struct of numbers.
+// No From: neither type is of this crate.
+fn told(answer: Result<usize, Reason>) -> Written
+    ensures { result ≡ written answer }
+{
+    match answer {
+        Ok(length) => Written {
             number: 0,
             place: 0,
-            length: length,
-        };
-    }
-    Written {
-        number: found.number,
-        place: found.place,
-        length: 0,
+            length,
+        },
+        Err(reason) => Written {
+            number: reason.number(),
+            place: reason.place(),
+            length: 0,
+        },
     }
 }
 
-// The wide file of a narrow one: whole, over the front of the slice, or not at all.
+// The wide file of a narrow one: whole, over the front of the slice, or not at all. (This and narrow are two functions,
+// for the two names of C, with convert behind both.)
+#[tactic(auto, using(crate::proofs::Answers::faithful_told))]
 pub fn widen(file: &[u8], out: &mut [u8]) -> Written
     ensures result { conversion false file.now out.old ≡ record { written = result; out = out.new } }
     ensures faithful { (conversion_refusal false file.now).number ≡ 0 → Faithful false file.now }
 {
-    convert(file, false, out)
+    told(convert::<u32, u64>(file, out))
 }
 
 // The narrow file of a wide one. Its result is never too long for a file.
+#[tactic(auto, using(crate::proofs::Answers::faithful_told))]
 pub fn narrow(file: &[u8], out: &mut [u8]) -> Written
     ensures result { conversion true file.now out.old ≡ record { written = result; out = out.new } }
     ensures faithful { (conversion_refusal true file.now).number ≡ 0 → Faithful true file.now }
     ensures never { result.number ≡ 22 → ⊥ }
 {
-    convert(file, true, out)
+    told(convert::<u64, u32>(file, out))
+}
+
+// The line of a refusal.
+fn put_reason(reason: Reason, out: &mut [u8]) -> usize
+    ensures { text_written (record { at = 0; out = out.old }) (refusal_text (number_of reason) (place_of reason)) ≡ record { at = result; out = out.new } }
+{
+    put_refusal(out, 0, reason.number(), reason.place())
+}
+
+// The text for a program: the result, or the line of the refusal.
+fn put_text<From: Word, To: Word>(file: &[u8], out: &mut [u8]) -> usize
+    requires other { To.flagged ≡ not From.flagged }
+    requires room { length out.old ≡ 65535 }
+    ensures { (result ≡ length (conversion_text From.flagged file.now)) × (out.new ≡ over (conversion_text From.flagged file.now) out.old) }
+{
+    match convert::<From, To>(file, out) {
+        Ok(length) => length,
+        Err(reason) => put_reason(reason, out),
+    }
 }
 
 // What a program that converts its input writes: the result, or the line of the refusal. A slice of 65,535
-// bytes has room for either.
+// bytes has room for either. (One promise for both directions, told apart by a flag: each program gives its own.)
+#[tactic(auto, using(crate::proofs::Answers::text_told))]
 pub fn convert_text(file: &[u8], flagged: bool, out: &mut [u8; 65535]) -> usize
     ensures result { (result ≡ length (conversion_text flagged file.now)) × (out.new ≡ over (conversion_text flagged file.now) out.old) }
     ensures counted { IsPrefixLen result out.new }
 {
-    let written = convert(file, flagged, out);
-    if written.number == 0 {
-        return written.length;
+    if flagged {
+        put_text::<u64, u32>(file, out)
+    } else {
+        put_text::<u32, u64>(file, out)
     }
-    put_refusal(out, 0, written.number, written.place)
 }

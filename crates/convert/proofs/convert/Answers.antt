@@ -1,31 +1,28 @@
--- What is answered is the refusal, that the slice is too short, or the result; and what is promised beside it.
-use Rattle.std.proofs.Common.{◌≡◌, ℕ, Bool, List, subst, ap, ◌∙◌, arith}
-use Rattle.semantics.specs.declared.Refusal.{Refusal}
-use Rattle.semantics.specs.Convert.{conversion_refusal}
-use Rattle.semantics.proofs.Convert.{Bytes}
-use Rattle.semantics.proofs.Faithful.{never-22}
-use Rattle.convert.proofs.Answers.{answers-refusal, answers-whole}
+use Rattle.std.proofs.Common.{length, ap, ◌∙◌, arith}
+use Rattle.std.proofs.lemmas.Result.{err_from_is_err_and}
+use Rattle.semantics.specs.Run.{over}
+use Rattle.semantics.proofs.Faithful.{accepted-parts}
+use Rattle.convert.proofs.Passes.{is-converted}
+use Rattle.convert.proofs.Answers.{positive, answers-refusal, answers-whole}
 use Rattle.convert.proofs.convert.Goals as goal
 
--- a file that is measured with number 0 is accepted
-accepted : (flagged : Bool) (file : List ℕ) {n place : ℕ} → conversion_refusal flagged file ≡ record { number = n; place = place } → n ≡ 0
-    → (conversion_refusal flagged file).number ≡ 0
-accepted flagged file e z = ap (λ (r : Refusal). r.number) e ∙ z
+pub returns-in_err-length : goal.returns-in_err-length
+returns-in_err-length g c =
+    let p = err_from_is_err_and c.from_residual.result c.from_residual.ensures.1 in
+    let e = c.in_err-length.ensures in
+    rw (p.1, p.2) (answers-refusal g.From.Word.flagged c.args.file.now c.args.out.now e (positive c.in_err-length.field-0.0))
 
-pub returns-then-found-eq0-clause-out_value : goal.returns-then-found-eq0-clause-out_value
-returns-then-found-eq0-clause-out_value c =
-    let a = c.args in
-    let m = c.measure-found.ensures in
-    answers-whole a.flagged a.file.now a.out.now (accepted a.flagged a.file.now m.file_value c.if-found-eq0.true) (m.length_value c.if-found-eq0.true) (omega arith)
-    c.put_file.ensures
+pub rewrite-requires-clause-sound : goal.rewrite-requires-clause-sound
+rewrite-requires-clause-sound g c = (accepted-parts g.From.Word.flagged c.args.file.now c.in_ok-length.ensures.0).file-accepted
 
-pub returns-clause-out_value : goal.returns-clause-out_value
-returns-clause-out_value c =
-    let a = c.args in answers-refusal a.flagged a.file.now a.out.now c.measure-found.ensures.file_value c.if-found-eq0.false
+pub rewrite-requires-clause-room : goal.rewrite-requires-clause-room
+rewrite-requires-clause-room g c =
+    omega (arith, c.in_ok-length.ensures, ap length (is-converted g.From.Word.flagged c.args.file.now g.To.Word.flagged c.requires))
 
-pub returns-clause-fact : goal.returns-clause-fact
-returns-clause-fact c =
-    let a = c.args in
-    let bytes : Bytes a.file.now = record { below = λ i. omega (arith, c.type_inv.file i) } in
-    λ down is. never-22 a.file.now bytes
-    (subst (λ f. (conversion_refusal f a.file.now).number ≡ 22) down (ap (λ (r : Refusal). r.number) c.measure-found.ensures.file_value ∙ is))
+pub returns : goal.returns
+returns g c =
+    let from = g.From.Word.flagged in
+    let file = c.args.file.now in
+    let m = c.in_ok-length.ensures in
+    answers-whole from file c.args.out.now m.0 m.1 (omega arith)
+    (c.rewrite.ensures ∙ ap (λ l. over l c.args.out.now) (is-converted from file g.To.Word.flagged c.requires))

@@ -1,92 +1,42 @@
--- A record that is sound is judged and weighed; a faulty one, or the last, decides.
-use Rattle.std.proofs.Common.{refl, sym, ap, ◌∙◌, arith}
-use Rattle.semantics.specs.declared.Position.{Position}
-use Rattle.semantics.specs.declared.Written.{Written}
-use Rattle.semantics.proofs.Marks.{scannable}
+use Rattle.std.proofs.Common.{◌+◌, ap, arith}
+use Rattle.std.proofs.lemmas.Result.{err_from_is_err_and}
+use Rattle.semantics.specs.RunFile.{layout_of}
 use Rattle.semantics.proofs.Records.{scan-less}
-use Rattle.runfile.proofs.Judged.{number-said, next-said}
-use Rattle.convert.proofs.Lone.{lent-inside, lent-whole, lent-part}
-use Rattle.convert.proofs.Passes.{weighing-starts, weighing-again, weighing-ends, faulty-decides, long-decides}
+use Rattle.semantics.proofs.Marks.{scannable}
+use Rattle.convert.proofs.Passes.{long-decides, measuring-starts, faulty-decides, size-bounds, measuring-again, measuring-ends}
 use Rattle.convert.proofs.measure.Goals as goal
 
-pub returns-then-file-gt-MOST_BYTES-clause-file_value : goal.returns-then-file-gt-MOST_BYTES-clause-file_value
-returns-then-file-gt-MOST_BYTES-clause-file_value c = long-decides _ _ c.if-file-gt-MOST_BYTES.true
+pub returns-then-file-gt-MOST_BYTES : goal.returns-then-file-gt-MOST_BYTES
+returns-then-file-gt-MOST_BYTES g c = long-decides g.From.Word.flagged c.args.file.now g.To.Word.flagged c.if-file-gt-MOST_BYTES.true
 
 pub loop-found-init : goal.loop-found-init
-loop-found-init c = weighing-starts _ _ c.start-position.ensures refl
+loop-found-init g c = measuring-starts g.From.Word.flagged c.args.file.now g.To.Word.flagged c.start-position.ensures
 
-pub returns-then-judged-ne0-clause-file_value : goal.returns-then-judged-ne0-clause-file_value
-returns-then-judged-ne0-clause-file_value c =
-    let f = c.args.file.now in
-    faulty-decides _ f c.loop-found.invariant (number-said _ f c.loop-found.position c.judge-judged.ensures) c.if-judged-ne0.true c.if-file-gt-MOST_BYTES.false
+pub returns-in_err-found : goal.returns-in_err-found
+returns-in_err-found g c =
+    let p = err_from_is_err_and c.from_residual.result c.from_residual.ensures.1 in
+    rw (p.1, p.2)
+    (faulty-decides g.From.Word.flagged c.args.file.now g.To.Word.flagged c.if-file-gt-MOST_BYTES.false c.loop-found.invariant _ c.in_err-found.ensures)
 
-pub slice_bounds-weigh-count : goal.slice_bounds-weigh-count
-slice_bounds-weigh-count c =
-    let f = c.args.file.now in
-    let p = c.loop-found.position in
-    let sound = sym (number-said _ f p c.judge-judged.ensures) ∙ c.if-judged-ne0.false in
-    let past = next-said _ f p c.judge-judged.ensures c.if-judged-ne0.false in
-    (lent-inside c.args.flagged f p sound (ap (λ (r : Position). r.at) past)).0
+pub overflow_add-length : goal.overflow_add-length
+overflow_add-length g c =
+    let small = size-bounds g.From.Word.flagged c.args.file.now g.To.Word.flagged c.loop-found.invariant c.in_ok-found.found c.in_ok-found.ensures c.if-file-gt-MOST_BYTES.false in
+    record { fits = omega (arith, small, c.size-length.ensures) }
 
-pub slice_bounds-weigh-start : goal.slice_bounds-weigh-start
-slice_bounds-weigh-start c =
-    let f = c.args.file.now in
-    let p = c.loop-found.position in
-    let sound = sym (number-said _ f p c.judge-judged.ensures) ∙ c.if-judged-ne0.false in
-    let past = next-said _ f p c.judge-judged.ensures c.if-judged-ne0.false in
-    (lent-inside c.args.flagged f p sound (ap (λ (r : Position). r.at) past)).0
-
-pub slice_bounds-weigh-end : goal.slice_bounds-weigh-end
-slice_bounds-weigh-end c =
-    let f = c.args.file.now in
-    let p = c.loop-found.position in
-    let sound = sym (number-said _ f p c.judge-judged.ensures) ∙ c.if-judged-ne0.false in
-    let past = next-said _ f p c.judge-judged.ensures c.if-judged-ne0.false in
-    (lent-inside c.args.flagged f p sound (ap (λ (r : Position). r.at) past)).1
-
-pub weigh-found-requires : goal.weigh-found-requires
-weigh-found-requires c =
-    let f = c.args.file.now in
-    let p = c.loop-found.position in
-    let sound = sym (number-said _ f p c.judge-judged.ensures) ∙ c.if-judged-ne0.false in
-    let past = next-said _ f p c.judge-judged.ensures c.if-judged-ne0.false in
-    let end = ap (λ (r : Position). r.at) past in (
-      lent-whole c.args.flagged f p sound end c.if-file-gt-MOST_BYTES.false,
-      lent-part c.args.flagged f p sound end past,
-      omega (arith, c.loop-found.invariant.small, lent-inside c.args.flagged f p sound end),
-    )
-
-pub returns-then-file-end-clause-file_value : goal.returns-then-file-end-clause-file_value
-returns-then-file-end-clause-file_value c =
-    let f = c.args.file.now in
-    let p = c.loop-found.position in
-    let sound = sym (number-said _ f p c.judge-judged.ensures) ∙ c.if-judged-ne0.false in
-    let past = next-said _ f p c.judge-judged.ensures c.if-judged-ne0.false in
-    (weighing-ends _ f c.loop-found.invariant sound past c.weigh-found.ensures c.if-file-gt-MOST_BYTES.false c.if-file-end.true).0
-    ∙ ap (λ (v : Written). record { number = v.number; place = v.place }) (sym c.limited.ensures)
-
-pub returns-then-file-end-clause-length_value : goal.returns-then-file-end-clause-length_value
-returns-then-file-end-clause-length_value c =
-    let f = c.args.file.now in
-    let p = c.loop-found.position in
-    let sound = sym (number-said _ f p c.judge-judged.ensures) ∙ c.if-judged-ne0.false in
-    let past = next-said _ f p c.judge-judged.ensures c.if-judged-ne0.false in
-    let is = c.limited.ensures in
-    λ z. ap (λ (v : Written). v.length) is
-    ∙ (weighing-ends _ f c.loop-found.invariant sound past c.weigh-found.ensures c.if-file-gt-MOST_BYTES.false c.if-file-end.true).1 (ap (λ (v : Written). v.number) (sym is) ∙ z)
+pub returns-then-file-next : goal.returns-then-file-next
+returns-then-file-next g c =
+    let l = c.loop-found in
+    measuring-ends g.From.Word.flagged c.args.file.now g.To.Word.flagged l.invariant c.in_ok-found.found c.in_ok-found.ensures
+    c.first_unfit-unfit.ensures (ap (λ n. l.length + n) c.size-length.ensures)
+    c.requires c.if-file-gt-MOST_BYTES.false c.if-file-next.true c.limited.result c.limited.ensures
 
 pub loop-found-smaller : goal.loop-found-smaller
-loop-found-smaller c =
-    let f = c.args.file.now in
-    let p = c.loop-found.position in
-    let sound = sym (number-said _ f p c.judge-judged.ensures) ∙ c.if-judged-ne0.false in
-    let past = next-said _ f p c.judge-judged.ensures c.if-judged-ne0.false in
-    scan-less (scannable _ f) sound past
+loop-found-smaller g c =
+    let read = c.in_ok-found.ensures in
+    scan-less (scannable (layout_of g.From.Word.flagged) c.args.file.now) read.0 read.2
 
 pub loop-found-preserved : goal.loop-found-preserved
-loop-found-preserved c =
-    let f = c.args.file.now in
-    let p = c.loop-found.position in
-    let sound = sym (number-said _ f p c.judge-judged.ensures) ∙ c.if-judged-ne0.false in
-    let past = next-said _ f p c.judge-judged.ensures c.if-judged-ne0.false in
-    weighing-again _ f c.loop-found.invariant sound past c.weigh-found.ensures c.if-file-end.false
+loop-found-preserved g c =
+    let l = c.loop-found in
+    measuring-again g.From.Word.flagged c.args.file.now g.To.Word.flagged l.invariant c.in_ok-found.found c.in_ok-found.ensures
+    c.first_unfit-unfit.ensures (ap (λ n. l.length + n) c.size-length.ensures) c.if-file-next.false
