@@ -1,48 +1,29 @@
 -- From what the reader, the run and the listing leave to the response to a file.
 -- Assumes nothing.
-use mathlib.Core.Path.{◌≡◌, refl, sym, ap, ap₂, subst, ◌∙◌}
+use mathlib.Core.Path.{◌≡◌, refl, sym, ap, subst, ◌∙◌}
 use Prim.Native.Nat.{ℕ, ◌≤◌}
-use mathlib.Core.Bool.{Bool, true, false, cond, not}
-use mathlib.Core.List.{List, []}
+use mathlib.Core.Bool.{Bool, true, false, cond}
+use mathlib.Core.List.{List, map}
 use native.Mathlib.Omega.{arith}
 use lib.Dec.{eqb, leb}
-use lib.ListN.{length, take, drop}
+use lib.ListN.{length, take, drop, replicate, length-map, length-replicate}
 use lib.Seq.{take_at}
-use borrow.Author.Tests.{eqb-false, ne_eqb, leb-true, leb-false}
+use borrow.Author.Tests.{eqb-false, leb-true, leb-false}
+use Rattle.std.proofs.lemmas.List.{take-map}
 use Rattle.io.specs.Counts.{IsPrefixLen}
 use Rattle.semantics.specs.declared.Refusal.{Refusal}
-use Rattle.semantics.specs.declared.Total.{Total}
+use Rattle.semantics.specs.declared.Loaded.{Loaded}
 use Rattle.semantics.specs.Words.{Width}
 use Rattle.semantics.specs.Refusals.{most_operations, most_entries}
-use Rattle.semantics.specs.Run.{Result, over}
+use Rattle.semantics.specs.Run.{Result, over, run_result}
 use Rattle.semantics.specs.Text.{Handed, handed}
 use Rattle.semantics.specs.RunFile.{Layout, Contents, Reading, layout_of, contents, most_cells, reader_refusal, accepted_reading, refused_reading, reading}
 use Rattle.semantics.specs.Listing.{listing, refusal_text}
-use Rattle.semantics.specs.Widths.{width_of, of_width, text_of, most_text_of}
+use Rattle.semantics.specs.Widths.{width_of, text_of, most_text_of}
 use Rattle.semantics.specs.Response.{run_of, listed, response_in, is_wide, response}
 use Rattle.semantics.proofs.Over.{over-length}
 use Rattle.semantics.proofs.Bounded.{bounded}
 use Rattle.runfile.proofs.Filled.{counts-front}
-
--- where a slice of the other width is empty, whichever a test says that is
-pub none : (narrow wide : List ℕ) {flagged : Bool} (b : Bool) → flagged ≡ b → of_width (not flagged) narrow wide ≡ [] → of_width (not b) narrow wide ≡ []
-none narrow wide b is e = subst (λ (w : Bool). of_width (not w) narrow wide ≡ []) is e
-
--- what a run left, listed; and a refusal, listed with anything
-module _ (W : Width) (total_text : Total → List ℕ) where
-  pub run-listed : (operations out : List ℕ) {result left : Result} {answers cells : List ℕ} {h : Handed} → result ≡ left → answers ≡ left.answers
-      → cells ≡ left.cells → handed (listing W total_text left.outcome operations answers left.log cells) out ≡ h
-      → handed (listed W total_text operations result) out ≡ h
-  unfolding listed
-  run-listed operations out {left = left} is a c e =
-      ap (λ (r : Result). handed (listed W total_text operations r) out) is
-      ∙ ap₂ (λ (answers cells : List ℕ). handed (listing W total_text left.outcome operations answers left.log cells) out) (sym a) (sym c)
-      ∙ e
-
-  pub refusal-listed : (number place : ℕ) (operations answers log cells : List ℕ) → (number ≡ 0 → ⊥)
-      → refusal_text number place ≡ listing W total_text (record { number = number; place = place; done = 0; lost = 0; idle = 0 }) operations answers log cells
-  unfolding listing
-  refusal-listed number place operations answers log cells h = rw (ne_eqb number 0 h)
 
 take-over : (written old : List ℕ) → take (length written) (over written old) ≡ written
 unfolding over
@@ -80,15 +61,15 @@ module _ (wide : Bool) (file : List ℕ) where
   responds z e = ap (λ z. cond z (listed_in (contents layout file)) (refusal_text refusal.number refusal.place)) e
 
   -- what the response is, from what the reader left
-  unfoldable pub Answers : Reading → Type 0
+  unfoldable Answers : Reading → Type 0
   Answers left =
       (left.loaded.number ≡ 0 → response_in wide file ≡ listed_in (parts left))
       × ((left.loaded.number ≡ 0 → ⊥) → response_in wide file ≡ refusal_text left.loaded.number left.loaded.place)
 
-  pub answers : (cells operations schedule : List ℕ) → length cells ≡ most_cells → length operations ≡ most_operations → length schedule ≡ most_entries
+  after_reading : (cells operations schedule : List ℕ) → length cells ≡ most_cells → length operations ≡ most_operations → length schedule ≡ most_entries
       → Answers (reading layout file cells operations schedule)
   unfolding Answers reading accepted_reading refused_reading
-  answers cells operations schedule a b d =
+  after_reading cells operations schedule a b d =
       let same : reader_refusal layout file (length cells) (length operations) (length schedule) ≡ refusal = λ i. reader_refusal layout file (a i) (b i) (d i) in
       subst (λ (r : Refusal). Answers (cond (eqb r.number 0) (accepted_reading (contents layout file) cells operations schedule) (refused_reading r cells operations schedule)))
       (sym same) (go (eqb refusal.number 0) refl)
@@ -100,6 +81,37 @@ module _ (wide : Bool) (file : List ℕ) where
         λ n. absurd (n refl),
       )
       go false e = (λ n. absurd (eqb-false refusal.number 0 e n), λ n. responds false e)
+
+-- of words, whatever their type, that the reader left in slices of the lengths that a response has
+module _ {A : Type 0} (number : A → ℕ) (wide : Bool) {W : Width} (width : W ≡ width_of wide) (file out : List ℕ) (cells cells' answers : List A) {operations' schedule' : List ℕ}
+    {loaded : Loaded} (whole : length cells ≡ most_cells) (fresh : map number answers ≡ replicate most_operations 0)
+    (read : reading (layout_of wide) file (map number cells) (replicate most_operations 0) (replicate most_entries 0)
+    ≡ record { loaded = loaded; cells = map number cells'; operations = operations'; schedule = schedule' }) where
+  answered : Answers wide file (record { loaded = loaded; cells = map number cells'; operations = operations'; schedule = schedule' })
+  answered =
+      subst (Answers wide file) read
+      (after_reading wide file _ _ _ (length-map cells number ∙ whole) (length-replicate {A = ℕ} most_operations 0) (length-replicate {A = ℕ} most_entries 0))
+
+  -- the run of what was read, listed
+  pub run-answered : {h : Handed} → loaded.number ≡ 0 → {r : Result}
+      → run_result W (map number (take loaded.cells cells')) (take loaded.operations operations') (take loaded.entries schedule') (map number answers) (replicate most_operations 0) ≡ r
+      → handed (listing W (text_of wide) r.outcome (take loaded.operations operations') r.answers r.log r.cells) out ≡ h
+      → handed (response_in wide file) out ≡ h
+  unfolding Answers run_of listed
+  run-answered accepted {r} ran listed-is =
+      let operations = take loaded.operations operations' in
+      let schedule = take loaded.entries schedule' in
+      let ran' = λ (V : Width) (cells answers : List ℕ). run_result V cells operations schedule answers (replicate most_operations 0) in
+      let of_width : ran' (width_of wide) (take loaded.cells (map number cells')) (replicate most_operations 0) ≡ r =
+      (λ i. ran' (sym width i) (take-map number loaded.cells cells' i) (sym fresh i)) ∙ ran in
+      ap (λ (bytes : List ℕ). handed bytes out) (answered.0 accepted)
+      ∙ (λ i. handed (listed (sym width i) (text_of wide) operations (of_width i)) out)
+      ∙ listed-is
+
+  -- or the refusal
+  pub refusal-answered : {h : Handed} → (loaded.number ≡ 0 → ⊥) → handed (refusal_text loaded.number loaded.place) out ≡ h → handed (response_in wide file) out ≡ h
+  unfolding Answers
+  refusal-answered refused told = ap (λ (bytes : List ℕ). handed bytes out) (answered.1 refused) ∙ told
 
 -- a text that was handed over: its bytes are inside the slice, and one that fits is not refused
 module _ (bytes out : List ℕ) where

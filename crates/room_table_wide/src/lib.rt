@@ -1,7 +1,6 @@
-// What is offered of the wide table under names of C (document 02, "A4"): its run and its reader, each the
-// function that it calls. They are a library of their own, beside room_table. A library is compiled as a whole, and
-// what serves both widths is compiled for the one that its callers use: so neither table pays for the
-// other.
+// What is offered of the wide table under names of C: its run and its reader, each the function that it calls. They are
+// a library of their own, beside room_table. A library is compiled as a whole, and one for both widths would hold
+// the other's run and reader for each caller.
 #![tactic(auto)]
 
 ghost use Rattle.std.specs.Prelude.{◌≡◌};

@@ -1,6 +1,5 @@
 // Up: the wide file of a narrow one, under a name of C, for the tests and the bench. Nothing is decided here: it is
-// the function that it calls. It is apart from room_narrow, so that each is compiled for its direction, as the
-// programs are.
+// the function that it calls. Each direction has a library, so that a caller links only what it calls.
 #![tactic(auto)]
 
 ghost use Rattle.std.specs.Prelude.{◌≡◌, false};

@@ -1,16 +1,15 @@
-// Document 02, "A5": reads a run file on standard input and writes the narrow file of a wide one, or the line of its
-// refusal.
+// Reads a run file on standard input and writes the narrow file of a wide one, or the line of its refusal.
 #![tactic(auto)]
 
 use convert::convert_text;
-use io::{read_full, write_all};
+use files::read_file;
 use semantics::MOST_BYTES;
+use std::io;
+use std::io::Write;
 
-// One byte more is read than the longest file has, so that a longer one is seen and refused.
-fn main() {
-    let mut file = [0u8; MOST_BYTES + 1];
-    let n = read_full(0, &mut file);
+fn main(rt: HostRuntime) -> io::Result<()> {
+    let file = read_file(rt.alloc(), rt.stdin())?;
     let mut out = [0u8; MOST_BYTES];
-    let length = convert_text(&file[..n], true, &mut out);
-    write_all(1, &out[..length]);
+    let length = convert_text(&file, true, &mut out);
+    rt.stdout().write_all(&out[..length])
 }
