@@ -42,44 +42,88 @@ def comment_above(lines, number, mark):
 
 
 class Function:
-    """A function of a crate: module is '' at the root, lines are numbered from 0, the last one included."""
+    """A function of a crate: module is '' at the root, lines are numbered from 0, the last one included. Of a method, block is the
+    line `impl` or `trait` that it stands below, owner the type or the trait, and of_trait the trait of an `impl .. for ..`."""
 
-    def __init__(self, crate, module, name, public, comment, first, last, lines):
-        self.crate, self.module, self.name, self.public, self.comment = crate, module, name, public, comment
-        self.first, self.last, self.offered, self.method = first, last, False, lines[first].startswith(" ")
-        indent = re.match(" *", lines[first]).group()
-        text = lines[first : last + 1]
-        opens = [i for i, line in enumerate(text) if line == indent + "{"]
-        opens = opens or [i for i, line in enumerate(text) if line.endswith(("{", "{}"))]
-        # with its contract; a brace at the end of a line of its own text is the body's
-        self.signature = "\n".join(text[: opens[0]] or [text[0].rstrip("{} ")])
-        self.body = "\n".join(text[opens[0] :])
+    def __init__(self, crate, module, block, name, public, comment, first, opens, last, lines):
+        self.crate, self.module, self.block, self.name, self.public, self.comment = crate, module, block, name, public, comment
+        self.first, self.last, self.offered, self.impls = first, last, False, []
+        self.owner, self.of_trait, self.in_trait = owner_of(block)
+        # with its contract; what is required of a trait's impls has no body
+        self.signature = "\n".join(lines[first:opens] or [lines[first].rstrip("{} ")])
+        self.body = "\n".join(lines[opens : last + 1])
 
     @property
     def path(self):
-        return "::".join(filter(None, [self.crate, self.module, self.name]))
+        return "::".join(filter(None, [self.crate, self.module, self.owner, self.name]))
+
+    @property
+    def key(self):
+        return self.module, self.block, self.name
+
+
+def owner_of(block):
+    """The type or trait that the line `impl` or `trait` is of, the trait of an impl, and whether it declares a trait."""
+    while block != (block := re.sub(r"<[^<>]*>", "", block)):
+        pass
+    head = re.match(r"(?:pub(?:\(crate\))? )?(?:(trait)|impl)\s+(?:([\w:]+) for )?([\w:]+|\[.*\])", block)
+    declares, of_trait, owner = head.groups() if head else (None, None, "")
+    return owner.split("::")[-1].rstrip(":"), (of_trait or "").split("::")[-1], declares is not None
+
+
+def ends_of(lines, number, indent):
+    """The lines where the body of the function whose head is a line begins and ends. It begins with the brace below a contract, or with
+    the line of the head that ends with one; of a trait's method without a body it is nothing, behind the end."""
+    depth = 0
+    for at in range(number, len(lines)):
+        line = lines[at]
+        depth += line.count("{") - line.count("}")
+        if depth == 0 and line.endswith(";"):
+            return at + 1, at
+        if depth == 0 and at == number and line.endswith("}"):
+            return at, at
+        if depth == 1 and line.endswith("{") and not re.match(r" *(ensures|requires)", line):
+            return at, next(last for last in range(at, len(lines)) if lines[last] == indent + "}")
+    raise ValueError(f"a function without an end: {lines[number]}")
 
 
 def functions_in(crate, module, text):
     """The functions of a file, methods among them."""
     lines = text.splitlines()
-    found, number = [], 0
+    found, number, block, of_block = [], 0, "", ""
     while number < len(lines):
-        head = re.match(r'( *)(pub |pub\(crate\) )?(?:extern "C" )?fn ([A-Za-z_0-9]+)', lines[number])
+        line = lines[number]
+        head = re.match(r'( *)(pub |pub\(crate\) )?(?:const )?(?:extern "C" )?fn ([A-Za-z_0-9]+)', line)
         if not head:
+            if re.match(r"(pub(\(crate\))? )?(impl|trait)\b.*\{$", line):
+                block, of_block = line, comment_above(lines, number, "//")
+            elif line == "}":
+                block = ""
             number += 1
             continue
         indent, public, name = head.groups()
-        last = number
-        while lines[last] != indent + "}" and not (last == number and lines[last].endswith("}")):
-            last += 1
+        opens, last = ends_of(lines, number, indent)
         comment = comment_above(lines, number, "//")
-        between = lines[found[-1].last + 1 : number] if found else ["none"]
+        beside = bool(found) and found[-1].block == block
+        between = lines[found[-1].last + 1 : number] if beside else ["none"]
         if not comment and not "".join(line for line in between if not line.lstrip().startswith("#[")).strip():
             comment = found[-1].comment  # one comment above a group of functions serves them all
-        found.append(Function(crate, module, name, public == "pub ", comment, number, last, lines))
+        if not comment and block and not beside:
+            comment = of_block  # and one above an impl its first
+        found.append(Function(crate, module, block, name, public == "pub ", comment, number, opens, last, lines))
         number = last + 1
     return found
+
+
+def item_at(text, line):
+    """The item of a file that a line outside its functions belongs to: a constant, a type, a trait or an impl."""
+    for head in reversed(text.splitlines()[: line + 1]):
+        if re.match(r"(pub(\(crate\))? )?(impl|trait)\b", head):
+            return owner_of(head)[1] or owner_of(head)[0]
+        found = re.match(r"(?:pub(?:\(crate\))? )?(?:const|struct|enum|static|type) (\w+)", head)
+        if found:
+            return found.group(1)
+    return ""
 
 
 class Code:
@@ -96,9 +140,18 @@ class Code:
         root_text = self.files.setdefault("", "")
         reached = {""} | set(re.findall(r"^pub mod ([a-z_0-9]+);", root_text, re.M))
         passed_on = {tuple(use.split("::")) for use in used(root_text, "pub ")}
+        traits = {(function.owner, function.name): function for function in self.functions if function.in_trait}
+        types = {name: (module if public else None, name) for module, text in self.files.items() for public, name in declared_types(text)}
         for function in self.functions:
             here = (function.module, function.name)
-            function.offered = function.public and (function.module in reached or here in passed_on or ("crate", *here) in passed_on)
+            offers = types.get(function.owner, ("", "")) if function.owner else here  # a method is offered where its type is
+            seen = offers[0] in reached or offers in passed_on or ("crate", *offers) in passed_on
+            if (function.of_trait, function.name) in traits:
+                traits[function.of_trait, function.name].impls.append(function)  # it keeps the trait's promise and has none of its own
+            elif function.in_trait:
+                function.offered = seen and function.block.startswith("pub ")
+            else:
+                function.offered = seen and (function.public or function.of_trait != "")
             if here == ("", "main") and (root / "crates" / crate / "src/main.rt").exists():
                 function.offered = True  # the program itself
 
@@ -108,6 +161,12 @@ class Code:
         lines = re.sub(r"^#!\[.*\n", "", self.files[module], flags=re.M).strip().splitlines() + [""]
         end = next(i for i, line in enumerate(lines) if not line.startswith("//") or line == "//")
         return comment_above(lines, end, "//")
+
+    def promise_of(self, function):
+        """What a function promises: its signature with its contract. An impl of a trait of another crate says it in ghost lines."""
+        text = self.files[function.module]
+        said = text[text.index(function.block) :].split("\n}")[0] if function.of_trait else ""
+        return function.signature + "".join("\n" + line for line in said.splitlines() if line.startswith(f"    ghost {function.name}_"))
 
     def place_of(self, module, path):
         """The module and the name that a path in a module leads to; nothing where it leads out of the crate."""
@@ -122,16 +181,28 @@ class Code:
         return None
 
     def called_by(self, function):
-        """The functions of the crate that one calls. A method is known by its name alone."""
+        """The functions of the crate that one calls, of a trait's also those that its impls call. A method that is called on a value is
+        known by its name alone; one that is called by a type of the crate, by both."""
         called = []
-        body = "\n".join(without_comment(line, "//") for line in function.body.splitlines())
-        for before, path in re.findall(r"(\.|[A-Z]\w*::)?\b((?:[a-z_0-9]+::)*[a-z_0-9]+)\(", body):
-            place = self.place_of(function.module, path)
-            for other in self.functions:
-                fits = other.name == path if before else place == (other.module, other.name)
-                if fits and other.method == bool(before) and other not in called:
-                    called.append(other)
+        owners = {other.owner for other in self.functions}
+        for caller in [function, *function.impls]:
+            body = "\n".join(without_comment(line, "//") for line in caller.body.splitlines())
+            for before, path in re.findall(r"(\.|[A-Z]\w*::)?\b((?:[a-z_0-9]+::)*[a-z_0-9]+)(?:::<[^()]*>)?\(", body):
+                owner = caller.owner if before == "Self::" else before.removesuffix("::")
+                place = self.place_of(caller.module, path)
+                for other in self.functions:
+                    if before:
+                        fits = other.owner and other.name == path and (owner not in owners or owner == other.owner)
+                    else:
+                        fits = not other.owner and place == (other.module, other.name)
+                    if fits and other not in called:
+                        called.append(other)
         return called
+
+
+def declared_types(text):
+    """The types and traits that a file declares, each with whether it is public."""
+    return re.findall(r"^(pub )?(?:pub\(crate\) )?(?:struct|enum|trait) (\w+)", text, re.M)
 
 
 def used(text, before=""):
@@ -153,7 +224,7 @@ def definitions_named(text, source):
                 name, _, here = name.strip().partition(" as ")
                 cited = file.replace(".", "/") + "." + name
                 files[here or name] = cited if crate == "semantics" else f"{crate}/specs/{cited}"
-    clauses = " ".join(re.split(r"^ *(?=ensures|requires)", text, flags=re.M)[1:])
+    clauses = " ".join(re.split(r"^ *(?=ensures|requires|ghost)", text, flags=re.M)[1:])
     words = re.findall(r"[^\s(){}\[\];,]+(?:\s*=(?=\s))?", clauses)
     named = [files[word] for word in words if word in files]  # a field that is given a value is `word =`, and no definition
     return list(dict.fromkeys(named))
