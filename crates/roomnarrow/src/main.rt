@@ -2,14 +2,14 @@
 #![tactic(auto)]
 
 use convert::convert_text;
-use files::read_file;
+use files::{read_file, write_text};
 use semantics::MOST_BYTES;
-use std::io;
-use std::io::Write;
 
-fn main(rt: HostRuntime) -> io::Result<()> {
-    let file = read_file(rt.alloc(), rt.stdin())?;
+// A read that fails counts as the end of the input, and a write that fails is not told.
+fn main(rt: HostRuntime) {
+    let mut file = [0u8; MOST_BYTES + 1];
+    let (n, _) = read_file(&mut rt.stdin(), &mut file);
     let mut out = [0u8; MOST_BYTES];
-    let length = convert_text(&file, true, &mut out);
-    rt.stdout().write_all(&out[..length])
+    let length = convert_text(&file[..n], true, &mut out);
+    let _ = write_text(&mut rt.stdout(), &out[..length]);
 }

@@ -35,14 +35,13 @@ front-tells file = go (leb (length file) 65536) refl
         let more : 65536 < length file = leb-false (length file) 65536 e in
         too_long (take 65536 file) (omega (arith, length-take-le 65536 file (omega (arith, more)))) ∙ sym (too_long file (omega (arith, more)))
 
--- the bytes that were read, the text of their response, and what the writer holds then
-pub answered : (remaining before after : Option (List ℕ)) (room : List ℕ) {read lent text : List ℕ} {n : ℕ} → lent ≡ read
-    → IfSome remaining (λ file. read ≡ take 65536 file)
-    → (n ≡ length (response lent)) × (text ≡ over (response lent) room)
-    → Appends before after (take n text)
-    → IfSome remaining (λ file. Appends before after (response file))
+-- what is written of the text is the response
+pub written : (file room : List ℕ) {text : List ℕ} {n : ℕ} → (n ≡ length (response file)) × (text ≡ over (response file) room) → take n text ≡ response file
 unfolding over
-answered None before after room same is whole appends = tt
-answered (Some file) before after room {lent = lent} same is (e, f) appends =
-    subst (Appends before after)
-    ((λ i. take (e i) (f i)) ∙ take_at (response lent) (drop (length (response lent)) room) (length (response lent)) refl ∙ ap response (same ∙ is) ∙ front-tells file) appends
+written file room (e, f) = (λ i. take (e i) (f i)) ∙ take_at (response file) (drop (length (response file)) room) (length (response file)) refl
+
+-- the bytes that were read where no read failed, and what the writer holds then
+pub answered : (remaining before after : Option (List ℕ)) (read : List ℕ) {text : List ℕ} → text ≡ response read → IfSome remaining (λ file. read ≡ take 65536 file)
+    → Appends before after text → IfSome remaining (λ file. Appends before after (response file))
+answered None before after read same is appends = tt
+answered (Some file) before after read same is appends = subst (Appends before after) (same ∙ ap response is ∙ front-tells file) appends

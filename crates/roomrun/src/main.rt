@@ -1,17 +1,16 @@
 // Reads a run file of either width on standard input and writes the text of its run.
 #![tactic(auto)]
 
-ghost use Rattle.std.specs.Prelude.{◌≡◌, true, ◌≤◌, length, OnOk, IfSome};
-ghost use Rattle.std.specs.Io.KnownBytes.{Appends};
+ghost use Rattle.std.specs.Prelude.{◌≡◌, ℕ, List, true, ◌≤◌, length, OnOk, IfSome};
+ghost use Rattle.std.specs.Io.KnownBytes.{Appends, Consumes};
 ghost use Rattle.io.specs.Counts.{IsPrefixLen};
 ghost use Rattle.semantics.specs.Run.{over};
 ghost use Rattle.semantics.specs.Widths.{most_text_of};
 ghost use Rattle.semantics.specs.Response.{response};
 
-use files::read_file;
+use files::{read_file, write_text};
 use report::report;
-use semantics::MOST_WIDE_TEXT;
-use std::alloc::Global;
+use semantics::{MOST_BYTES, MOST_WIDE_TEXT};
 use std::io;
 use std::io::{Read, Write};
 
@@ -26,17 +25,21 @@ fn respond(file: &[u8], text: &mut [u8]) -> usize
     written.length
 }
 
-// Writes the response to all that a reader gives. Whatever bytes were read, it writes the text of them: by `respond`.
+// Writes the response to all that a reader gives; where a read fails, to what came before. Says how the reads went, and how the writes.
 #[tactic(auto, unfolding(semantics::specs::Widths::most_text_of))]
-fn answer<R: Read + Drop, W: Write>(alloc: Global, input: R, output: &mut W) -> io::Result<()>
-    ensures { OnOk result (IfSome (R.remaining input) (λ file. Appends (W.contents output.old) (W.contents output.new) (response file))) }
+fn answer<R: Read, W: Write>(input: &mut R, output: &mut W) -> (io::Result<()>, io::Result<()>)
+    ensures whole { OnOk result.0 (OnOk result.1 (IfSome (R.remaining input.old) (λ file. Appends (W.contents output.old) (W.contents output.new) (response file)))) }
+    ensures came { OnOk result.1 ((file : List ℕ) × Consumes (R.remaining input.old) (R.remaining input.new) file × Appends (W.contents output.old) (W.contents output.new) (response file)) }
 {
-    let file = read_file(alloc, input)?;
+    // Both arrays stand before the read: one behind it is cleared twice, as today's compiler has it.
+    let mut file = [0u8; MOST_BYTES + 1];
     let mut text = [0u8; MOST_WIDE_TEXT];
-    let length = respond(&file, &mut text);
-    output.write_all(&text[..length])
+    let (n, read) = read_file(input, &mut file);
+    let length = respond(&file[..n], &mut text);
+    (read, write_text(output, &text[..length]))
 }
 
-fn main(rt: HostRuntime) -> io::Result<()> {
-    answer(rt.alloc(), rt.stdin(), &mut rt.stdout())
+// A read that fails counts as the end of the input, and a write that fails is not told.
+fn main(rt: HostRuntime) {
+    let _ = answer(&mut rt.stdin(), &mut rt.stdout());
 }

@@ -1,20 +1,23 @@
 -- What is read is the front of what the reader had.
 -- Assumes nothing.
-use Rattle.std.proofs.Common.{◌≡◌, ℕ, take, List, ◌++◌, IfSome, Option, Some, None, subst}
-use Rattle.std.specs.Option.{option_map}
+use Rattle.std.proofs.Common.{◌≡◌, ℕ, ◌+◌, ◌≤◌, List, ◌++◌, rules, length, take, drop, sym, ap, ◌∙◌, subst, le_refl, drop_at, length-take-le}
+use Rattle.std.proofs.lemmas.Slice.{take-put_mid_below}
+use Rattle.std.specs.Io.KnownBytes.{Consumes}
+use Rattle.std.proofs.KnownBytes.{Consumes-trans}
+use borrow.Rule.Slice.PartMut.{put_mid, post_of}
+use lib.Seq.{take-add, take-append-le}
 use Rattle.files.proofs.read_file.Goals as goal
 
--- what is known of the front of some bytes, where they are known
-front : (n : ℕ) (file : List ℕ) (o : Option (List ℕ)) → IfSome (option_map (take n) o) (λ bytes. file ≡ bytes) → IfSome o (λ bytes. file ≡ take n bytes)
-front n file None h = h
-front n file (Some bytes) h = h
+-- a read into the slice from a on, of which n bytes came
+read-on : (a k n : ℕ) (file came : List ℕ) → a ≤ length file → n ≤ length came → take a file ++ take n came ≡ take (a + n) (put_mid a k file came)
+read-on a k n file came within fits =
+    let new = put_mid a k file came in
+    let after = post_of a k file in
+    ap (λ l. take a file ++ l) (sym (ap (take n) (drop_at (take a file) (came ++ after) a (length-take-le a file within)) ∙ take-append-le n came after fits))
+    ∙ ap (λ l. l ++ take n (drop a new)) (sym (take-put_mid_below a k file came a (le_refl a) within))
+    ∙ sym (take-add a n new)
 
-pub returns : goal.returns
-returns g c =
-    let remaining = g.R.Read.remaining in
-    let file = c.read_to_end.new.buf.items in
-    let same : option_map (take c.take.result.limit) (remaining c.take.result.inner) ≡ option_map (take 65536) (remaining c.args.reader) =
-    λ i. option_map (take (c.take.ensures.limit i)) (remaining (c.take.ensures.inner i)) in
-    front 65536 file (remaining c.args.reader)
-    (subst (λ (o : Option (List ℕ)). IfSome o (λ bytes. file ≡ bytes)) same
-    (subst (λ (start : List ℕ). IfSome (option_map (take c.take.result.limit) (remaining c.take.result.inner)) (λ bytes. file ≡ start ++ bytes)) c.new-file.ensures.items c.in_ok-read_to_end.ensures.bytes))
+pub loop-done-preserved : goal.loop-done-preserved
+loop-done-preserved g c =
+    let read = c.in-Ok.ensures in
+    (search rules, search rules, subst (Consumes _ _) (read-on _ _ _ _ _ c.loop-done.invariant.1 read.bound.0) (Consumes-trans _ _ _ _ _ c.loop-done.invariant.2 read.bytes.0))
