@@ -21,6 +21,7 @@ use runfile::record::{Fault, Record, read_record, record_at};
 use runfile::start;
 use semantics::{MOST_BYTES, Total, Written};
 use word::Word;
+use word::bytes::copy;
 
 // Why a file is not converted: its reader turns it away; the record at an offset has a total that the other
 // width has not; the result is too long for a file; the slice is too short for the result.
@@ -208,7 +209,7 @@ fn rewrite<From: Word, To: Word>(file: &[u8], out: &mut [u8])
     let mut done = 0;
     while let Some(found) = record_at::<From>(rest, 0) {
         if let Record::Schedule(_) = found {
-            out[done..done + rest.len()].copy_from_slice(rest);
+            copy(&mut out[done..done + rest.len()], rest);
             return;
         }
         put_record::<To>(found, &mut out[done..]);

@@ -5,6 +5,8 @@ ghost use Rattle.std.specs.Prelude.{◌≡◌, ◌+◌, ◌%◌, ◌≤◌, ◌+
 ghost use Rattle.semantics.specs.Text.{decimal};
 ghost use Rattle.listing.specs.Writing.{wrote};
 
+use word::bytes::copy;
+
 // A slice, and the position of the byte that follows. The promises speak of these fields and not of a model: with
 // one, whoever lends a writer its slice would not learn what stands there in the end.
 #[derive(Drop)]
@@ -26,7 +28,7 @@ fn copy_to(out: &mut [u8], at: usize, bytes: &[u8])
     requires { at + length bytes.now ≤ length out.old }
     ensures { out.new ≡ take at out.old ++ bytes.now ++ drop (at + length bytes.now) out.old }
 {
-    out[at..at + bytes.len()].copy_from_slice(bytes);
+    copy(&mut out[at..at + bytes.len()], bytes);
 }
 
 impl<'a> Writer<'a> {

@@ -7,6 +7,7 @@ use denote.Ref.{Bor}
 use Rattle.semantics.specs.declared.Mark.{Mark}
 use Rattle.semantics.specs.declared.Mark.TheVariants.{Table as is_table, Cell as is_cell, Operation as is_operation, Schedule as is_schedule, Unknown}
 use Rattle.semantics.specs.declared.Position.{Position}
+use Rattle.semantics.specs.declared.Judged.{Judged}
 use Rattle.semantics.specs.Records.{fault_at}
 use Rattle.semantics.specs.Refusals.{first_met}
 use Rattle.semantics.specs.RunFile.{Layout, layout_of, byte_at, pair_at, entries_at, mark_at, next_of, run_file, conditions_of}
@@ -107,6 +108,11 @@ ReadsAt flagged file p (Ok (r, q)) =
     (fault_at (run_file (layout_of flagged)) file p ≡ 0) × Is flagged file p.at (mark_at (layout_of flagged) file p.at) r
     × (q ≡ next_of (layout_of flagged) file p)
 ReadsAt flagged file p (Err f) = (number_of f ≡ fault_at (run_file (layout_of flagged)) file p) × (place_of f ≡ p.at)
+
+-- what a scan makes of the record, by that answer: a record that is turned away is not passed
+abbrev pub as_judged : Position → Result (Record × Position) Fault → Judged
+as_judged p (Ok (r, q)) = record { number = 0; next = q }
+as_judged p (Err f) = record { number = number_of f; next = p }
 
 -- what stands at an offset of a file: a record that is not cut short, whether or not its fields are right, or none
 abbrev pub Stands : Bool → List ℕ → ℕ → Option Record → Type 0

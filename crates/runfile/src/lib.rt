@@ -17,6 +17,7 @@ pub mod record; // record.rt: one record, and why it is turned away
 use record::{Fault, Record, opens, read_record, sound_record};
 use semantics::{Loaded, MOST_BYTES, MOST_CELLS, MOST_ENTRIES, MOST_OPERATIONS, Position};
 use word::Word;
+use word::bytes::copy;
 
 // Whether a file is of the wide width, by the mark of its table.
 #[tactic(auto, unfolding(semantics::specs::Response::is_wide))]
@@ -113,7 +114,7 @@ fn store<W: Word>(
         }
         Record::Schedule(entries) => {
             let first = position.entries;
-            schedule[first..first + entries.len()].copy_from_slice(entries);
+            copy(&mut schedule[first..first + entries.len()], entries);
         }
     }
 }
@@ -157,6 +158,7 @@ fn fill<W: Word>(
     }
 }
 
+// What is told of a file that is turned away: why and where, and that nothing was read.
 impl From<Fault> for Loaded {
     ghost from_gives = { λ f l. l ≡ record { number = number_of f; place = place_of f; cells = 0; operations = 0; entries = 0 } };
 

@@ -1,11 +1,11 @@
 // One record of a run file: what it is, and why it is turned away. Its refusals stand in the order that the
 // reader has.
 ghost use Rattle.std.specs.Prelude.{◌≡◌, not, ◌^◌, ◌||◌, ◌+◌, ◌*◌, ◌<◌, eqb, ltb, leb, Ok};
-ghost use Rattle.semantics.specs.RunFile.{layout_of, run_file, may_follow, mark_at, has_mark};
+ghost use Rattle.semantics.specs.RunFile.{layout_of, run_file, may_follow, mark_at, has_mark, judged};
 ghost use Rattle.semantics.specs.Words.{size_allowed};
 ghost use Rattle.semantics.specs.Records.{fault_at};
 ghost use Rattle.runfile.specs.Faults.{number_of, place_of};
-ghost use Rattle.runfile.specs.Records.{Reads, ReadsAt, Is, Rest, Stands, Tells, Whole, Passable, after};
+ghost use Rattle.runfile.specs.Records.{Reads, ReadsAt, as_judged, Is, Rest, Stands, Tells, Whole, Passable, after};
 
 use hash::size_allowed;
 use semantics::{MOST_ENTRIES, MOST_OPERATIONS, Mark, Position, Total};
@@ -262,13 +262,14 @@ fn rest_of(file: &[u8], at: usize) -> Result<&[u8], Fault>
     Ok(&file[at..])
 }
 
-// The record at a position, and the position past it.
+// The record at a position, and the position past it: what the scan makes of it, whatever the position.
 #[inline(always)]
 pub fn read_record<W: Word>(
     file: &[u8],
     position: Position,
 ) -> Result<(Record<'_>, Position), Fault>
-    ensures { ReadsAt W.flagged file.now position result }
+    ensures read { ReadsAt W.flagged file.now position result }
+    ensures judged { as_judged position result ≡ judged (layout_of W.flagged) file.now position }
 {
     let rest = rest_of(file, position.at)?;
     let record = read_body::<W>(rest, position, mark_of::<W>(rest))?;

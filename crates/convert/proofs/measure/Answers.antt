@@ -16,27 +16,27 @@ pub returns-in_err-found : goal.returns-in_err-found
 returns-in_err-found g c =
     let p = err_from_is_err_and c.from_residual.result c.from_residual.ensures.1 in
     rw (p.1, p.2)
-    (faulty-decides g.From.Word.flagged c.args.file.now g.To.Word.flagged c.if-file-gt-MOST_BYTES.false c.loop-found.invariant _ c.in_err-found.ensures)
+    (faulty-decides g.From.Word.flagged c.args.file.now g.To.Word.flagged c.if-file-gt-MOST_BYTES.false c.loop-found.invariant _ c.in_err-found.ensures.read)
 
 pub overflow_add-length : goal.overflow_add-length
 overflow_add-length g c =
-    let small = size-bounds g.From.Word.flagged c.args.file.now g.To.Word.flagged c.loop-found.invariant c.in_ok-found.found c.in_ok-found.ensures c.if-file-gt-MOST_BYTES.false in
+    let small = size-bounds g.From.Word.flagged c.args.file.now g.To.Word.flagged c.loop-found.invariant c.in_ok-found.found c.in_ok-found.ensures.read c.if-file-gt-MOST_BYTES.false in
     record { fits = omega (arith, small, c.size-length.ensures) }
 
 pub returns-then-file-next : goal.returns-then-file-next
 returns-then-file-next g c =
     let l = c.loop-found in
-    measuring-ends g.From.Word.flagged c.args.file.now g.To.Word.flagged l.invariant c.in_ok-found.found c.in_ok-found.ensures
+    measuring-ends g.From.Word.flagged c.args.file.now g.To.Word.flagged l.invariant c.in_ok-found.found c.in_ok-found.ensures.read
     c.first_unfit-unfit.ensures (ap (λ n. l.length + n) c.size-length.ensures)
     c.requires c.if-file-gt-MOST_BYTES.false c.if-file-next.true c.limited.result c.limited.ensures
 
 pub loop-found-smaller : goal.loop-found-smaller
 loop-found-smaller g c =
-    let read = c.in_ok-found.ensures in
+    let read = c.in_ok-found.ensures.read in
     scan-less (scannable (layout_of g.From.Word.flagged) c.args.file.now) read.0 read.2
 
 pub loop-found-preserved : goal.loop-found-preserved
 loop-found-preserved g c =
     let l = c.loop-found in
-    measuring-again g.From.Word.flagged c.args.file.now g.To.Word.flagged l.invariant c.in_ok-found.found c.in_ok-found.ensures
+    measuring-again g.From.Word.flagged c.args.file.now g.To.Word.flagged l.invariant c.in_ok-found.found c.in_ok-found.ensures.read
     c.first_unfit-unfit.ensures (ap (λ n. l.length + n) c.size-length.ensures) c.if-file-next.false

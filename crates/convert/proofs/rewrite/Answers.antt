@@ -7,8 +7,8 @@ use Rattle.convert.proofs.rewrite.Goals as goal
 pub loop-found-init : goal.loop-found-init
 loop-found-init g c = writing-starts g.From.Word.flagged c.args.file.now g.To.Word.flagged c.args.out.now c.requires.sound
 
-pub slice_bounds-copy_from_slice-end : goal.slice_bounds-copy_from_slice-end
-slice_bounds-copy_from_slice-end g c =
+pub slice_bounds-copy-end : goal.slice_bounds-copy-end
+slice_bounds-copy-end g c =
     let file = c.args.file.now in
     let b : Bytes file = record { below = λ i. omega (arith, c.type_inv.file i) } in
     let found = c.in-Some.ensures in
@@ -20,7 +20,7 @@ returns-in-Schedule g c =
     let b : Bytes file = record { below = λ i. omega (arith, c.type_inv.file i) } in
     let found = c.in-Some.ensures in
     writing-entries g.From.Word.flagged file g.To.Word.flagged c.loop-found.invariant c.requires.room b c.in-Some.found found.0 found.1 c.in-Schedule.is
-    c.copy_from_slice.ensures.after
+    (c.copy.ensures.same (omega arith))
 
 pub put_record-requires : goal.put_record-requires
 put_record-requires g c =

@@ -13,19 +13,19 @@ loop-next-init g c =
 pub returns-in_err-next : goal.returns-in_err-next
 returns-in_err-next g c =
     let p = err_from_is_err_and c.from_residual.result c.from_residual.ensures.1 in
-    rw (p.1, p.2) (scan-refused (layout_of g.W.Word.flagged) c.args.file.now _ c.loop-next.invariant c.in_err-next.ensures)
+    rw (p.1, p.2) (scan-refused (layout_of g.W.Word.flagged) c.args.file.now _ c.loop-next.invariant c.in_err-next.ensures.read)
 
 pub returns-then-file-next : goal.returns-then-file-next
 returns-then-file-next g c =
-    let read = c.in_ok-next.ensures in
+    let read = c.in_ok-next.ensures.read in
     judge-ends (scannable (layout_of g.W.Word.flagged) c.args.file.now) read.0 read.2 c.loop-next.invariant c.if-file-next.true
 
 pub loop-next-smaller : goal.loop-next-smaller
 loop-next-smaller g c =
-    let read = c.in_ok-next.ensures in
+    let read = c.in_ok-next.ensures.read in
     scan-less (scannable (layout_of g.W.Word.flagged) c.args.file.now) read.0 read.2
 
 pub loop-next-preserved : goal.loop-next-preserved
 loop-next-preserved g c =
-    let read = c.in_ok-next.ensures in
+    let read = c.in_ok-next.ensures.read in
     judge-goes-on (scannable (layout_of g.W.Word.flagged) c.args.file.now) read.0 read.2 c.loop-next.invariant c.if-file-next.false

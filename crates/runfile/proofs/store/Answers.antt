@@ -1,3 +1,4 @@
+use Rattle.std.proofs.Common.{arith}
 use Rattle.runfile.proofs.Stores.{stores-cell, stores-entries}
 use Rattle.runfile.proofs.store.Goals as goal
 
@@ -7,4 +8,4 @@ returns-in-Cell g c =
 
 pub returns-in-Schedule : goal.returns-in-Schedule
 returns-in-Schedule g c =
-    stores-entries g.W.Word.number g.W.Word.width c.args.position c.args.cells.now c.args.operations.now c.args.schedule.now c.requires _ c.in-Schedule.is c.copy_from_slice.ensures.after
+    stores-entries g.W.Word.number g.W.Word.width c.args.position c.args.cells.now c.args.operations.now c.args.schedule.now c.requires _ c.in-Schedule.is (c.copy.ensures.same (omega arith))
