@@ -62,6 +62,7 @@ impl Reason {
     }
 }
 
+// What a run of a call that is turned away returns: number and place of the reason, and no count.
 impl From<Reason> for Outcome {
     ghost from_gives = { λ r o. o ≡ refused_outcome (number_of r) (place_of r) };
 

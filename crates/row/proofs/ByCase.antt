@@ -2,7 +2,7 @@
 -- to by what the code looks at.
 -- Assumes nothing.
 use mathlib.Core.Path.{◌≡◌, refl, sym, ap}
-use Prim.Native.Nat.{ℕ, suc, ◌+◌, ◌≤◌, ◌<◌}
+use Prim.Native.Nat.{ℕ, suc, ◌+◌, ◌%◌, ◌≤◌, ◌<◌}
 use mathlib.Core.Bool.{Bool, true, false, cond, ◌||◌, not-eq-not, or-true, or-false}
 use native.Mathlib.Decide.{ℕ_discrete}
 use native.Mathlib.Omega.{arith}
@@ -28,6 +28,19 @@ use Rattle.semantics.specs.Step.{makes, updating, effect, sight, read, exhausted
 use Rattle.semantics.specs.Words.{setting_at, is_kind, kind_of, is_live_key, cell_from, carried}
 use Rattle.semantics.specs.Rules.{effect_of}
 use Rattle.semantics.proofs.Booleans.{both, true-T}
+
+-- the code of an answer is a number of eight bits, with a row for each answer
+pub code-small : (a : Answer Total) → code_of a % 256 ≡ code_of a
+unfolding code_of
+code-small (found t) = refl
+code-small (present t) = refl
+code-small (changed t) = refl
+code-small (removed t) = refl
+code-small (capped t) = refl
+code-small (retained t) = refl
+code-small inserted = refl
+code-small absent = refl
+code-small full = refl
 
 -- the sum of two totals, below the ceiling and from it on
 module _ (ceiling : ℕ) (a b : Total) where
@@ -60,12 +73,18 @@ module _ (ceiling c k : ℕ) (t amount : Total) where
       × (carried (total_of answer) ≡ t)
       × (fate_cell S k t fate ≡ cell)
 
+  -- what an add answers in parts, by whether it is capped
+  pub add_parts : (z : Bool) → (code_of (cond z (capped t) (changed t)) ≡ cond z 8 4) × (carried (total_of (cond z (capped t) (changed t))) ≡ t)
+  unfolding code_of total_of carried
+  add_parts true = (refl, refl)
+  add_parts false = (refl, refl)
+
   -- an add is capped or changed, and its total becomes the sum either way
-  pub add_parts : (z : Bool) → caps_at ceiling t amount ≡ z
+  pub add-says : (z : Bool) → caps_at ceiling t amount ≡ z
       → Says 4 true (becomes (plus_at ceiling t amount)) (cond z (capped t) (changed t)) (cond z 8 4) (live k (plus_at ceiling t amount))
   unfolding effect_of is_kind kind_of makes effect caps_at fate_cell code_of total_of carried
-  add_parts true e = (refl, rw e, refl, refl, refl)
-  add_parts false e = (refl, rw e, refl, refl, refl)
+  add-says true e = (refl, rw e, refl, refl, refl)
+  add-says false e = (refl, rw e, refl, refl, refl)
 
   -- find, insert, update by whether the total is saturated, add by whether it caps, remove; and any other number
   pub rule-kinds : Says 1 false stays (found t) 1 (live k t)
@@ -82,8 +101,8 @@ module _ (ceiling c k : ℕ) (t amount : Total) where
     (refl, refl, refl, refl, refl),
     λ e. (refl, rw e, refl, refl, refl),
     λ e. (refl, rw e, refl, refl, refl),
-    add_parts true,
-    add_parts false,
+    add-says true,
+    add-says false,
     (refl, refl, refl, refl, refl),
     λ n e. rw e,
   )

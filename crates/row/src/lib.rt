@@ -3,7 +3,7 @@
 // whose record does not stand within the table, takes no step, and nothing changes.
 #![tactic(auto)]
 
-ghost use Rattle.std.specs.Prelude.{◌≡◌, cond, ◌+◌, ◌<◌, ◌^◌};
+ghost use Rattle.std.specs.Prelude.{◌≡◌, cond, ◌+◌, ◌<◌, ◌^◌, None};
 ghost use Rattle.row.specs.Row.{passing, holding_word, losing, finishing, turned, is_within, pending_of, step_taken, after_step, skims, skimmed, passed_on};
 
 use semantics::Total;
@@ -161,10 +161,12 @@ impl Row {
     }
 
     // One step at the cell where it stands, over the lent row, whose record turns in place: what the step leaves of that
-    // cell, and how the record turned, if a step is taken.
+    // cell, and how the record turned, if a step is taken. A row that has finished takes none, and stays as it is.
+    #[inline(always)]
     pub fn step(&mut self, bounds: Bounds, cell: Cell<Total>) -> Option<Stepped<Total>>
         ensures taken { result ≡ step_taken bounds self.old cell }
         ensures turned { self.new ≡ after_step bounds self.old cell }
+        ensures finished { self.old.progress.stage ≡ Stage.Finished → (result ≡ None) × (self.new ≡ self.old) }
     {
         let progress = self.progress;
         if !progress.is_within(bounds.cells) {

@@ -13,6 +13,11 @@ module _ {A : Type 0} where
   unfolding over
   over_none old = refl
 
+  -- what is written over what was written there before
+  pub over-over : (w v old : List A) → length v ≡ length w → over w (over v old) ≡ over w old
+  unfolding over
+  over-over w v old e = ap (◌++◌ w) (drop_at v (drop (length v) old) (length w) e ∙ ap (λ n. drop n old) e)
+
   pub over-length : (w old : List A) → length w ≤ length old → length (over w old) ≡ length old
   unfolding over
   over-length w old h = length-append w (drop (length w) old) ∙ omega (arith, length-drop (length w) old)

@@ -1,11 +1,11 @@
 // The step rules as methods of the values that they speak of, under any ceiling of totals and in any number of
 // cells: what a kind of operation does to a total, and what a read or a compare-and-swap does at the one cell
 // that it reads. Each promises, of every value, what a definition of specs/ says: of Step, Totals, Cells or Rules.
-ghost use Rattle.std.specs.Prelude.{◌≡◌, ℕ};
+ghost use Rattle.std.specs.Prelude.{◌≡◌, ℕ, true, Some};
 ghost use Rattle.semantics.specs.Totals.{plus_at, caps_at};
 ghost use Rattle.semantics.specs.Cells.{find, insert, update, add, remove, code_of, total_of};
 ghost use Rattle.semantics.specs.Step.{makes, effect, sight, exhausted, held_cell, fate_cell, step, reading, holding};
-ghost use Rattle.semantics.specs.Words.{setting_at, carried};
+ghost use Rattle.semantics.specs.Words.{setting_at, carried, is_kind, kind_of};
 ghost use Rattle.semantics.specs.Rules.{Decodes, effect_of, setting_in};
 
 use crate::Total;
@@ -245,7 +245,8 @@ impl Effect<Total> {
 
     // What an operation does whose kind has this number, and none where it is no kind's: one match over the number
     // refuses the others, and chooses both what the read does and the new cell. No run goes by it, since a row's number
-    // is read once, when its kind is made of it; it is for whoever has the number alone.
+    // is read once, when its kind is made of it: Operation::effect then promises the same of that number. It is for
+    // whoever has the number alone.
     #[tactic(auto, unfolding(crate::specs::Rules::effect_of, crate::specs::Words::is_kind, crate::specs::Words::kind_of))]
     pub fn by_number(kind: u8, total: Total, amount: Total, ceiling: u32) -> Option<Self>
         ensures { (c : ℕ) → result ≡ effect_of (setting_at ceiling c) kind total amount }
@@ -262,9 +263,12 @@ impl Effect<Total> {
 }
 
 impl Operation<Total> {
-    // What it does where its key has a total.
+    // What it does where its key has a total: one match chooses both what the read does and the new cell. It is the
+    // match over the kind's number too, since the kind was made of that number, and of no other (Kind::try_from).
+    #[tactic(auto, unfolding(crate::specs::Rules::effect_of))]
     fn effect(self, total: Total, ceiling: u32) -> Effect<Total>
-        ensures { (c : ℕ) → result ≡ effect (setting_at ceiling c) self.kind total self.amount }
+        ensures does { (c : ℕ) → result ≡ effect (setting_at ceiling c) self.kind total self.amount }
+        ensures numbered { (c n : ℕ) → is_kind n ≡ true → kind_of n ≡ self.kind → effect_of (setting_at ceiling c) n total self.amount ≡ Some result }
     {
         match self.kind {
             Kind::Find => Effect::found(total),
