@@ -52,7 +52,7 @@ use Rattle.row.specs.declared.Stage.TheVariants.{Reading as AtReading}
 use Rattle.row.specs.Row.{row_of, finishing, is_holding, step_taken, after_step, skims, skimmed}
 use Rattle.row.proofs.Represents.{row-at, row-holds, holds, taken-is, after-is, kept-cell, read-cell, skims-is}
 use Rattle.run.specs.declared.Taken.TheVariants.{GoesOn}
-use Rattle.run.specs.Rows.{blank, no_row, begun, at_home, first_rows}
+use Rattle.run.specs.Rows.{blank_rows, no_row, begun, first_row, first_rows}
 use Rattle.run.specs.Entry.{answer_word as packed_of, Standing, stands, stored, told, told_if, cell_at, after_step_of, after_idle, after_entry, taken_of}
 use Rattle.run.specs.Underway.{Call, result_of, row_in, IsAccepted, machine_after, Underway, Due, standing_after}
 
@@ -99,7 +99,7 @@ module _ {W : Width} (P : Packing W) (b : Call) (accepted : IsAccepted W b) wher
   -- before the first entry
   home-is : (i : ℕ) → i < n
       → let w = get_or b.operations i 0 in
-      at_home W c w ≡ row_of c (decode_operation W w) fresh
+      first_row W c w ≡ row_of c (decode_operation W w) fresh
   unfolding fresh
   home-is i less =
       let w = get_or b.operations i 0 in
@@ -111,13 +111,13 @@ module _ {W : Width} (P : Packing W) (b : Call) (accepted : IsAccepted W b) wher
       (scaled-is c o.key ok.size
       ∙ sym (ap (λ (z : ℕ). z % c) (add-zero (home_in c o.key)) ∙ mod-eq_of_lt (home-inside c ok.size o.key)))
 
-  rows-first : first_rows W c b.operations ≡ over (map (row_in c) (map (fresh_row S) (map (decode_operation W) b.operations))) blank
+  rows-first : first_rows W c b.operations ≡ over (map (row_in c) (map (fresh_row S) (map (decode_operation W) b.operations))) blank_rows
   unfolding first_rows fresh_row
   rows-first =
       let first = fresh_row S in
-      ap (λ l. over l blank)
-      (ap (map (at_home W c)) (take_all 64 b.operations ok.few)
-      ∙ map_each (at_home W c) (λ w. row_in c (first (decode_operation W w))) b.operations 0 home-is
+      ap (λ l. over l blank_rows)
+      (ap (map (first_row W c)) (take_all 64 b.operations ok.few)
+      ∙ map_each (first_row W c) (λ w. row_in c (first (decode_operation W w))) b.operations 0 home-is
       ∙ sym (map-map (λ o. row_in c (first o)) (decode_operation W) b.operations)
       ∙ sym (map-map (row_in c) first (map (decode_operation W) b.operations)))
 
@@ -135,7 +135,7 @@ module _ {W : Width} (P : Packing W) (b : Call) (accepted : IsAccepted W b) wher
 
   -- what stands is what a run ending there leaves, if its parts are those of the machine m that the rules have come to
   underway : (k : ℕ) {m : Machine Total} → after-entries k ≡ m → (st : Standing)
-      → st.cells ≡ map (encode W) m.cells → st.rows ≡ over (map (row_in c) m.rows) blank
+      → st.cells ≡ map (encode W) m.cells → st.rows ≡ over (map (row_in c) m.rows) blank_rows
       → st.answers ≡ over (map (answer_of W) m.rows) b.answers → st.log ≡ over m.log b.log
       → ((i : ℕ) → is_in st.finished i ≡ finished_in m.rows i) → ones st.finished ≡ length m.log → st.lost ≡ m.lost → st.idle ≡ m.idle
       → st.lost + st.idle ≤ k → Underway W b k st
@@ -151,7 +151,7 @@ module _ {W : Width} (P : Packing W) (b : Call) (accepted : IsAccepted W b) wher
         accepted = accepted;
         holds = hold.rules P _ _ _ _ _ accepted k
             ∙ (λ i. record { outcome = made_outcome (done i) (lost-is i) (idle-is i); cells = cells_are i; answers = answers-are i; log = log_is i });
-        rows_are = rows ∙ ap (λ (q : Machine Total). over (map (row_in c) q.rows) blank) (sym is);
+        rows_are = rows ∙ ap (λ (q : Machine Total). over (map (row_in c) q.rows) blank_rows) (sym is);
         finished-are = λ i. done-are i ∙ ap (λ (q : Machine Total). finished_in q.rows i) (sym is);
         few = few;
       }
@@ -289,7 +289,7 @@ module _ {W : Width} (P : Packing W) (b : Call) (accepted : IsAccepted W b) wher
             let f = row_in c in
             let (long, at) = elem-get_d (map f m.rows) i z (elem-map f m.rows i row_at) in
             ap (λ l. get_or l i z) H.rows_are
-            ∙ over-get (map f m.rows) blank i z long
+            ∙ over-get (map f m.rows) blank_rows i z long
             ∙ at
             ∙ ap (λ (y : State Total). row_of c o y) steps.1
 
@@ -360,13 +360,13 @@ module _ {W : Width} (P : Packing W) (b : Call) (accepted : IsAccepted W b) wher
         cells-stay h =
             cells_are ∙ ap (map (encode W)) (sym (ap (set m.cells place) (kept-cell S o s x h) ∙ set-get_or m.cells place Empty))
 
-        rows-then : set st.rows i (after_step bounds now seen) ≡ over (map (row_in c) (set m.rows i (row-then stepped.turn))) blank
+        rows-then : set st.rows i (after_step bounds now seen) ≡ over (map (row_in c) (set m.rows i (row-then stepped.turn))) blank_rows
         rows-then =
             let f = row_in c in
             let long : i < length (map f m.rows) = omega (arith, below, rows_long, length-map m.rows f) in
             ap₂ (λ (x : List Row) (y : Row). set x i y) H.rows_are after-here
-            ∙ over-set (map f m.rows) blank i (f (row-then stepped.turn)) long
-            ∙ ap (λ l. over l blank) (sym (map-set f m.rows i (row-then stepped.turn)))
+            ∙ over-set (map f m.rows) blank_rows i (f (row-then stepped.turn)) long
+            ∙ ap (λ l. over l blank_rows) (sym (map-set f m.rows i (row-then stepped.turn)))
 
         -- the machine after it, by the turn t
         abbrev reached : Turn Total → Machine Total
@@ -402,7 +402,7 @@ module _ {W : Width} (P : Packing W) (b : Call) (accepted : IsAccepted W b) wher
         unfolding taken
         kept t is cells' answers' log' finished' lost' q a l f n' e w =
             underway (k + 1) {m = reached t} (next-is ∙ ap reached is) _ q
-            (rows-then ∙ ap (λ (u : Turn Total). over (map (row_in c) (reached u).rows) blank) is) a l f n' e idle-is w
+            (rows-then ∙ ap (λ (u : Turn Total). over (map (row_in c) (reached u).rows) blank_rows) is) a l f n' e idle-is w
 
         -- a turn that does not finish: no answer, no place in the log
         unanswered : answer_of W row ≡ 0
@@ -482,6 +482,12 @@ module _ {W : Width} (P : Packing W) (b : Call) (accepted : IsAccepted W b) wher
                 lost-is
                 (omega (arith, H.few))
 
+-- a step of a row that has not finished
+pub step-kept : {W : Width} (P : Packing W) (inside : Within W) (b : Call) {k i : ℕ} {limits : Bounds} {st : Standing} → Due W b limits k i
+    → is_in st.finished i ≡ false → Underway W b k st → Underway W b (k + 1) (after_step_of W limits i st)
+step-kept {W} P inside b {k} {i} {limits} {st} due unfinished H =
+    subst (λ (l : Bounds). Underway W b (k + 1) (after_step_of W l i st)) (sym due.limits) (step-keeps P b H.accepted H due.left due.names unfinished inside)
+
 -- an entry, whether its row has finished or not
 pub entry-keeps : {W : Width} (P : Packing W) (inside : Within W) (b : Call) {k i : ℕ} {limits : Bounds} {st : Standing} → Due W b limits k i
     → Underway W b k st → Underway W b (k + 1) (after_entry W limits i st)
@@ -493,10 +499,10 @@ entry-keeps {W} P inside b {k} {i} {limits} {st} due H =
     go true e = at-idle P b H.accepted H due.left due.names e
     go false e = step-keeps P b H.accepted H due.left due.names e inside
 
--- "after every entry the slice holds what a run ending there leaves": so what leaves what `after_entry` says keeps it
-pub at_once : {W : Width} (P : Packing W) (inside : Within W) {limits : Bounds} {i : ℕ} {st q : Standing} → after_entry W limits i st ≡ q
+-- so what leaves what `after_entry` says keeps it
+pub entry_at_once : {W : Width} (P : Packing W) (inside : Within W) {limits : Bounds} {i : ℕ} {st q : Standing} → after_entry W limits i st ≡ q
     → (after_entry W limits i st ≡ q) × ((b : Call) (k : ℕ) → Due W b limits k i → Underway W b k st → Underway W b (k + 1) q)
-at_once {W} P inside is = (is, λ b k due H. subst (Underway W b (k + 1)) is (entry-keeps P inside b due H))
+entry_at_once {W} P inside is = (is, λ b k due H. subst (Underway W b (k + 1)) is (entry-keeps P inside b due H))
 
 -- and for every beginning of a schedule the slices, as its entries are taken, hold what a run of that beginning leaves
 pub every-beginning : {W : Width} (P : Packing W) (inside : Within W) (b : Call) → IsAccepted W b → (k : ℕ) → k ≤ length b.schedule
@@ -508,7 +514,24 @@ every-beginning {W} P inside b accepted (suc k) all =
     subst (λ (n : ℕ). Underway W b n (standing_after W b (suc k))) one
     (entry-keeps P inside b (record { left = all; names = refl; limits = refl }) (every-beginning P inside b accepted k (omega arith)))
 
--- at either width
+-- all this at either width
+pub at-start-of : (flagged : Bool) (b : Call) → IsAccepted (width_of flagged) b → {cells answers : List ℕ} {rows : List Row} → cells ≡ b.cells
+    → answers ≡ over (replicate (length b.operations) 0) b.answers → rows ≡ first_rows (width_of flagged) (length b.cells) b.operations
+    → Underway (width_of flagged) b 0 (stands cells answers b.log 0 rows 0 0)
+at-start-of flagged = at-start (packing-of flagged)
+
+pub at-idle-of : (flagged : Bool) (b : Call) → IsAccepted (width_of flagged) b → {k : ℕ} {st : Standing} → Underway (width_of flagged) b k st
+    → {i : ℕ} → k < length b.schedule → i ≡ get_or b.schedule k 0 → is_in st.finished i ≡ true → Underway (width_of flagged) b (k + 1) (after_idle st)
+at-idle-of flagged = at-idle (packing-of flagged)
+
+pub at-end-of : (flagged : Bool) (b : Call) → IsAccepted (width_of flagged) b → {k : ℕ} {st : Standing} → Underway (width_of flagged) b k st
+    → length b.schedule ≤ k → run_result (width_of flagged) b.cells b.operations b.schedule b.answers b.log ≡ result_of st
+at-end-of flagged = at-end (packing-of flagged)
+
+pub entry-keeps-of : (flagged : Bool) (b : Call) {k i : ℕ} {limits : Bounds} {st : Standing} → Due (width_of flagged) b limits k i
+    → Underway (width_of flagged) b k st → Underway (width_of flagged) b (k + 1) (after_entry (width_of flagged) limits i st)
+entry-keeps-of flagged = entry-keeps (packing-of flagged) (within flagged)
+
 pub every-beginning-of : (flagged : Bool) (b : Call) → IsAccepted (width_of flagged) b → (k : ℕ) → k ≤ length b.schedule
     → Underway (width_of flagged) b k (standing_after (width_of flagged) b k)
 every-beginning-of flagged = every-beginning (packing-of flagged) (within flagged)
@@ -520,92 +543,115 @@ pub recounted : {W : Width} {b : Call} {k : ℕ} {cells answers log : List ℕ} 
 recounted {W} {b} {k} {cells} {answers} {log} {rows} H f l d =
     subst (Underway W b k) (λ j. stands cells answers log (sym f j) rows (sym l j) (sym d j)) H
 
--- what `take` knows: its own row, and the cell that it read
-module _ (W : Width) (limits : Bounds) (i : ℕ) (st : Standing) {own own' : Row} (mine : own ≡ get_or st.rows i no_row) where
-  -- the row has finished, and stays
-  pub leaves-idle : is_in st.finished i ≡ true → own' ≡ own
-      → after_entry W limits i st ≡ stands st.cells st.answers st.log st.finished (set st.rows i own') (st.lost + 0) (st.idle + 1)
-  unfolding after_entry
-  leaves-idle e stays =
-      let none : st.lost + 0 ≡ st.lost = omega arith in
-      let same : set st.rows i own' ≡ st.rows = ap (set st.rows i) (stays ∙ mine) ∙ set-get_or st.rows i no_row in
-      rw (e, none, same)
+-- what a step leaves: of its own row, at the cell that it reads, and what its turn adds
+leaves : (W : Width) (limits : Bounds) (i : ℕ) (st : Standing) {own own' : Row} → own ≡ get_or st.rows i no_row
+    → {x : Cell Total} → x ≡ cell_at W st.cells own.progress.at → own' ≡ after_step limits own x
+    → {y : Option (Stepped Total)} → y ≡ step_taken limits own x
+    → after_step_of W limits i st
+    ≡ told_if W (is_holding own.progress.stage) own.progress.at i y (stands st.cells st.answers st.log st.finished (set st.rows i own') st.lost st.idle)
+unfolding after_step_of
+leaves W limits i st {own} mine reads goes took =
+    sym (λ j. by (mine j) ((reads ∙ ap (λ (r : Row). cell_at W st.cells r.progress.at) mine) j))
+    ∙ (λ j. told_if W (is_holding own.progress.stage) own.progress.at i (sym took j) (stands st.cells st.answers st.log st.finished (set st.rows i (sym goes j)) st.lost st.idle))
+  where
+    by : Row → Cell Total → Standing
+    by r u = told_if W (is_holding r.progress.stage) r.progress.at i (step_taken limits r u) (stands st.cells st.answers st.log st.finished (set st.rows i (after_step limits r u)) st.lost st.idle)
 
-  module _ (open_row : is_in st.finished i ≡ false) where
-    -- it takes a step, at the cell that it reads
-    module _ {x : Cell Total} (reads : x ≡ cell_at W st.cells own.progress.at) (goes : own' ≡ after_step limits own x) where
-      leaves : {y : Option (Stepped Total)} → y ≡ step_taken limits own x
-          → after_entry W limits i st
-          ≡ told_if W (is_holding own.progress.stage) own.progress.at i y (stands st.cells st.answers st.log st.finished (set st.rows i own') (st.lost + 0) (st.idle + 0))
-      unfolding after_entry after_step_of
-      leaves {y} took =
-          let lost-none : st.lost + 0 ≡ st.lost = omega arith in
-          let idle-none : st.idle + 0 ≡ st.idle = omega arith in
-          rw (open_row, lost-none, idle-none)
-          (sym (λ j. by (mine j) ((reads ∙ ap (λ (r : Row). cell_at W st.cells r.progress.at) mine) j))
-          ∙ (λ j. told_if W (is_holding own.progress.stage) own.progress.at i (sym took j) (stands st.cells st.answers st.log st.finished (set st.rows i (sym goes j)) st.lost st.idle)))
-        where
-          by : Row → Cell Total → Standing
-          by r u = told_if W (is_holding r.progress.stage) r.progress.at i (step_taken limits r u) (stands st.cells st.answers st.log st.finished (set st.rows i (after_step limits r u)) st.lost st.idle)
+-- "after every entry the slice holds what a run ending there leaves": so the step of an entry, of its own row, what it stores and what its turn
+-- adds keep it
+pub at_once : {W : Width} (P : Packing W) (inside : Within W) {limits : Bounds} {i : ℕ} {st : Standing} {own own' : Row} → own ≡ get_or st.rows i no_row
+    → {x : Cell Total} → x ≡ cell_at W st.cells own.progress.at → own' ≡ after_step limits own x
+    → {y : Option (Stepped Total)} → y ≡ step_taken limits own x → {q : Standing}
+    → told_if W (is_holding own.progress.stage) own.progress.at i y (stands st.cells st.answers st.log st.finished (set st.rows i own') st.lost st.idle) ≡ q
+    → (after_step_of W limits i st ≡ q)
+    × ((b : Call) (k : ℕ) → Due W b limits k i → is_in st.finished i ≡ false → Underway W b k st → Underway W b (k + 1) q)
+at_once {W} P inside {limits} {i} {st} mine reads goes took adds =
+    let is = leaves W limits i st mine reads goes took ∙ adds in (
+      is,
+      λ b k due unfinished H. subst (Underway W b (k + 1)) is (step-kept P inside b due unfinished H),
+    )
 
-      pub leaves-none : None ≡ step_taken limits own x
-          → after_entry W limits i st ≡ stands st.cells st.answers st.log st.finished (set st.rows i own') (st.lost + 0) (st.idle + 0)
-      leaves-none took = leaves took
+-- at either width
+pub at_once-of : (flagged : Bool) {limits : Bounds} {i : ℕ} {st : Standing} {own own' : Row} → own ≡ get_or st.rows i no_row
+    → {x : Cell Total} → x ≡ cell_at (width_of flagged) st.cells own.progress.at → own' ≡ after_step limits own x
+    → {y : Option (Stepped Total)} → y ≡ step_taken limits own x → {q : Standing}
+    → told_if (width_of flagged) (is_holding own.progress.stage) own.progress.at i y
+    (stands st.cells st.answers st.log st.finished (set st.rows i own') st.lost st.idle)
+    ≡ q
+    → (after_step_of (width_of flagged) limits i st ≡ q)
+    × ((b : Call) (k : ℕ) → Due (width_of flagged) b limits k i → is_in st.finished i ≡ false → Underway (width_of flagged) b k st
+    → Underway (width_of flagged) b (k + 1) q)
+at_once-of flagged = at_once (packing-of flagged) (within flagged)
 
-      module _ {y : Stepped Total} (took : Some y ≡ step_taken limits own x) where
-        turns : (t : Turn Total) → y.turn ≡ t
-            → after_entry W limits i st
-            ≡ told W (is_holding own.progress.stage) own.progress.at i y.cell t (stands st.cells st.answers st.log st.finished (set st.rows i own') (st.lost + 0) (st.idle + 0))
-        turns t e =
-            leaves took
-            ∙ ap (λ (u : Turn Total). told W (is_holding own.progress.stage) own.progress.at i y.cell u (stands st.cells st.answers st.log st.finished (set st.rows i own') (st.lost + 0) (st.idle + 0))) e
+-- what the turn adds of row i, which was own before the step, to what stands then; with the counts as `take` tells them
+module _ (W : Width) (i : ℕ) (own : Row) (s : Standing) where
+  abbrev Adds : Option (Stepped Total) → List ℕ → List ℕ → List ℕ → ℕ → ℕ → Type 0
+  Adds y cells' answers' log' finished' lost' =
+      told_if W (is_holding own.progress.stage) own.progress.at i y s ≡ stands cells' answers' log' finished' s.rows lost' (s.idle + 0)
 
-        leaves-pass : y.turn ≡ Passes
-            → after_entry W limits i st ≡ stands st.cells st.answers st.log st.finished (set st.rows i own') (st.lost + 0) (st.idle + 0)
-        unfolding told
-        leaves-pass e = turns Passes e
+  same : s ≡ stands s.cells s.answers s.log s.finished s.rows (s.lost + 0) (s.idle + 0)
+  same = λ j. stands s.cells s.answers s.log s.finished s.rows (sym (add-zero s.lost) j) (sym (add-zero s.idle) j)
 
-        leaves-hold : (h : Held Total) → y.turn ≡ Holds h
-            → after_entry W limits i st ≡ stands st.cells st.answers st.log st.finished (set st.rows i own') (st.lost + 0) (st.idle + 0)
-        unfolding told
-        leaves-hold h e = turns (Holds h) e
+  -- no step is taken
+  pub adds-none : Adds None s.cells s.answers s.log s.finished (s.lost + 0)
+  adds-none = same
 
-        pub leaves-on : (y.turn ≡ Passes) ⊎ ((h : Held Total) × (y.turn ≡ Holds h))
-            → after_entry W limits i st ≡ stands st.cells st.answers st.log st.finished (set st.rows i own') (st.lost + 0) (st.idle + 0)
-        leaves-on (inl e) = leaves-pass e
-        leaves-on (inr e) = leaves-hold e.0 e.1
+  module _ (y : Stepped Total) where
+    by-turn : {t : Turn Total} → y.turn ≡ t
+        → told_if W (is_holding own.progress.stage) own.progress.at i (Some y) s ≡ told W (is_holding own.progress.stage) own.progress.at i y.cell t s
+    by-turn e = ap (λ (t : Turn Total). told W (is_holding own.progress.stage) own.progress.at i y.cell t s) e
 
-        pub leaves-lose : y.turn ≡ Loses
-            → after_entry W limits i st ≡ stands st.cells st.answers st.log st.finished (set st.rows i own') (st.lost + 1) (st.idle + 0)
-        unfolding told
-        leaves-lose e =
-            let one : st.lost + 0 + 1 ≡ st.lost + 1 = omega arith in
-            turns Loses e ∙ ap (λ (n : ℕ). stands st.cells st.answers st.log st.finished (set st.rows i own') n (st.idle + 0)) one
+    pub adds-nothing : (y.turn ≡ Passes) ⊎ ((h : Held Total) × (y.turn ≡ Holds h)) → Adds (Some y) s.cells s.answers s.log s.finished (s.lost + 0)
+    unfolding told
+    adds-nothing (inl e) = by-turn e ∙ same
+    adds-nothing (inr e) = by-turn e.1 ∙ same
 
-        pub leaves-finish : (a : Answer Total) → y.turn ≡ Finishes a → {cells' : List ℕ} {v : ℕ}
-            → cells' ≡ stored W (is_holding own.progress.stage) own.progress.at y.cell st.cells → v ≡ packed_of W a
-            → after_entry W limits i st
-            ≡ stands cells' (set st.answers i v) (set st.log (ones st.finished) i) (including st.finished i) (set st.rows i own') (st.lost + 0) (st.idle + 0)
-        unfolding told
-        leaves-finish a e table answer =
-            turns (Finishes a) e
-            ∙ (λ j. stands (sym table j) (set st.answers i (sym answer j)) (set st.log (ones st.finished) i) (including st.finished i) (set st.rows i own') (st.lost + 0) (st.idle + 0))
+    pub adds-lost : y.turn ≡ Loses → Adds (Some y) s.cells s.answers s.log s.finished (s.lost + 1)
+    unfolding told
+    adds-lost e = by-turn e ∙ ap (stands s.cells s.answers s.log s.finished s.rows (s.lost + 1)) (sym (add-zero s.idle))
 
-    -- a pass that the key alone tells
-    pub leaves-skim : {key : ℕ} → key ≡ W.key_of (get_or st.cells own.progress.at 0) → skims limits.cells own key ≡ true → own' ≡ skimmed limits.cells own
-        → after_entry W limits i st ≡ stands st.cells st.answers st.log st.finished (set st.rows i own') (st.lost + 0) (st.idle + 0)
-    unfolding decode
-    leaves-skim {key} is told-by goes =
-        let w = get_or st.cells own.progress.at 0 in
-        let test = ap (λ (n : ℕ). skims limits.cells own n) (sym is) ∙ told-by in
-        let (step_is, after_is) = skims-is limits own.operation (W.key_of w) (W.total_in w) own.progress.at own.progress.passed own.progress.stage test in
-        leaves-pass refl (goes ∙ sym after_is) (sym step_is) refl
+    -- it finishes: what it stores, its answer and its place in the log
+    pub adds-answer : {a : Answer Total} → y.turn ≡ Finishes a → {cells' answers' log' : List ℕ}
+        → cells' ≡ stored W (is_holding own.progress.stage) own.progress.at y.cell s.cells → answers' ≡ set s.answers i (packed_of W a)
+        → log' ≡ set s.log (ones s.finished) i → Adds (Some y) cells' answers' log' (including s.finished i) (s.lost + 0)
+    unfolding told
+    adds-answer e table answers log =
+        by-turn e
+        ∙ (λ j. stands (sym table j) (sym answers j) (sym log j) (including s.finished i) s.rows (sym (add-zero s.lost) j) (sym (add-zero s.idle) j))
+
+-- a pass that the key alone tells is such a step
+pub skim_at_once : {W : Width} (P : Packing W) (inside : Within W) {limits : Bounds} {i : ℕ} {st : Standing} {own own' : Row} → own ≡ get_or st.rows i no_row
+    → {key : ℕ} → key ≡ W.key_of (get_or st.cells own.progress.at 0) → skims limits.cells own key ≡ true → own' ≡ skimmed limits.cells own
+    → let q = stands st.cells st.answers st.log st.finished (set st.rows i own') (st.lost + 0) (st.idle + 0) in
+    (after_step_of W limits i st ≡ q)
+    × ((b : Call) (k : ℕ) → Due W b limits k i → is_in st.finished i ≡ false → Underway W b k st → Underway W b (k + 1) q)
+unfolding decode
+skim_at_once {W} P inside {limits} {i} {st} {own} {own'} mine is told-by goes =
+    let w = get_or st.cells own.progress.at 0 in
+    let test = ap (λ (n : ℕ). skims limits.cells own n) (sym is) ∙ told-by in
+    let (step_is, after_is) = skims-is limits own.operation (W.key_of w) (W.total_in w) own.progress.at own.progress.passed own.progress.stage test in
+    at_once P inside mine refl (goes ∙ sym after_is) (sym step_is) (adds-nothing W i own _ _ (inl refl))
 
 -- and then the row goes on
-pub skim-goes-on : (W : Width) (limits : Bounds) (own : Row) (w : ℕ) {key : ℕ} {idle : Bool} → idle ≡ false → key ≡ W.key_of w
-    → skims limits.cells own key ≡ true → GoesOn ≡ taken_of idle (step_taken limits own (decode W w))
+pub skim-goes-on : (W : Width) (limits : Bounds) (own : Row) (w : ℕ) {key : ℕ} → key ≡ W.key_of w
+    → skims limits.cells own key ≡ true → GoesOn ≡ taken_of false (step_taken limits own (decode W w))
 unfolding decode
-skim-goes-on W limits own w {key} {idle} open_row is told-by =
+skim-goes-on W limits own w {key} is told-by =
     let test = ap (λ (n : ℕ). skims limits.cells own n) (sym is) ∙ told-by in
     let step_is = (skims-is limits own.operation (W.key_of w) (W.total_in w) own.progress.at own.progress.passed own.progress.stage test).0 in
-    λ j. taken_of (sym open_row j) (sym step_is j)
+    ap (taken_of false) (sym step_is)
+
+-- what `take_entry` knows of an entry: its row has finished, and stays
+pub leaves-idle : (W : Width) (limits : Bounds) (i : ℕ) (st : Standing) {own own' : Row} → own ≡ get_or st.rows i no_row → is_in st.finished i ≡ true → own' ≡ own
+    → after_entry W limits i st ≡ stands st.cells st.answers st.log st.finished (set st.rows i own') (st.lost + 0) (st.idle + 1)
+unfolding after_entry
+leaves-idle W limits i st {own} {own'} mine e stays =
+    let none : st.lost + 0 ≡ st.lost = omega arith in
+    let same : set st.rows i own' ≡ st.rows = ap (set st.rows i) (stays ∙ mine) ∙ set-get_or st.rows i no_row in
+    rw (e, none, same)
+
+-- or it takes a step
+pub leaves-step : (W : Width) (limits : Bounds) (i : ℕ) (st : Standing) {q : Standing} → is_in st.finished i ≡ false → after_step_of W limits i st ≡ q
+    → after_entry W limits i st ≡ q
+unfolding after_entry
+leaves-step W limits i st e is = rw e is

@@ -1,4 +1,4 @@
--- What the clause holds of `run::take` rules out: of one run, after its third entry, slices in which something is missing or too much,
+-- What the clauses holds of `run::take` and `run::take_entry` rule out: of one run, after its third entry, slices in which something is missing or too much,
 -- which are therefore those of no run under way. Were the claim loosened so that one passes, its line here would fail.
 -- Assumes nothing.
 use mathlib.Core.Path.{◌≡◌, refl, ap}

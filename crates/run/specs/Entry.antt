@@ -1,4 +1,4 @@
--- Must be believed of the promises of run::take and run::clear alone: what `run` and `report` promise rests on semantics/specs.
+-- Must be believed of the promises of run::take, run::take_entry and run::clear alone: what `run` and `report` promise rests on semantics/specs.
 -- What one entry of a schedule leaves, on the words of a table of any width and the rows of the code. The step is that of row/specs/Row.antt.
 -- Assumes nothing.
 use Rattle.std.specs.Prelude.{ℕ, ◌+◌, min, Bool, true, false, cond, List, length, get_or, set, replicate, Option, Some, None}

@@ -1,9 +1,9 @@
--- Must be believed of the clause holds of run::take alone, down to Due, and the rest of proofs/Loop.antt's every-beginning: what `run` and
--- `report` promise rests on semantics/specs.
+-- Must be believed of the clauses holds of run::take and run::take_entry alone, down to Due, and the rest of proofs/Loop.antt's
+-- every-beginning: what `run` and `report` promise rests on semantics/specs.
 -- "After every entry the slice holds what a run ending there leaves". A run that has taken some entries of its schedule, at any width: what
 -- stands in its slices, and what it keeps beside them to go on with.
 -- Assumes nothing.
-use Rattle.std.specs.Prelude.{◌≡◌, ℕ, zero, suc, ◌+◌, ◌≤◌, ◌<◌, List, map, length, get_or, set, replicate, take}
+use Rattle.std.specs.Prelude.{◌≡◌, ℕ, zero, suc, ◌+◌, ◌≤◌, ◌<◌, false, List, map, length, get_or, set, replicate, take}
 use Rattle.std.specs.Int.Count.{ones}
 use Rattle.semantics.specs.declared.Total.{Total}
 use Rattle.semantics.specs.declared.rules.Bounds.{Bounds}
@@ -15,8 +15,8 @@ use Rattle.semantics.specs.Demands.{after_entries}
 use Rattle.row.specs.declared.Row.{Row}
 use Rattle.row.specs.Row.{row_of}
 use Rattle.run.specs.declared.Taken.{Taken}
-use Rattle.run.specs.Rows.{blank, no_row, first_rows}
-use Rattle.run.specs.Entry.{Standing, after_entry, stands, lost_by, idle_by}
+use Rattle.run.specs.Rows.{blank_rows, no_row, first_rows}
+use Rattle.run.specs.Entry.{Standing, after_step_of, after_entry, stands, lost_by, idle_by}
 
 -- a call of the run, by the numbers of its words
 pub record Call : Type 0 where
@@ -58,7 +58,7 @@ module _ (W : Width) (b : Call) where
     -- "the slice holds what a run ending there leaves": every element of cells, answers and log, past those that are written too
     pub holds : ending_after k ≡ result_of s
     -- it goes on with each row, and the set of those that have finished
-    pub rows_are : s.rows ≡ over (map (row_in (length b.cells)) (machine_after k).rows) blank
+    pub rows_are : s.rows ≡ over (map (row_in (length b.cells)) (machine_after k).rows) blank_rows
     pub finished-are : (i : ℕ) → is_in s.finished i ≡ finished_in (machine_after k).rows i
     -- no entry is counted twice
     pub few : s.lost + s.idle ≤ k
@@ -86,3 +86,13 @@ Keeps W bounds i before after row row' t =
     → let was = before rows lost idle in
     let is = after (set rows i row') (lost + lost_by t) (idle + idle_by t) in
     (after_entry W bounds i was ≡ is) × ((b : Call) (k : ℕ) → Due W b bounds k i → Underway W b k was → Underway W b (k + 1) is)
+
+-- The step that an entry takes of row i, whatever the set of finished rows has: it leaves what `after_step_of` says; so where row i has not
+-- finished, what k entries of a call left is then what k + 1 leave.
+abbrev pub KeepsStep : Width → Bounds → ℕ → (List Row → ℕ → ℕ → Standing) → (List Row → ℕ → ℕ → Standing) → Row → Row → Taken → Type 0
+KeepsStep W bounds i before after row row' t =
+    (rows : List Row) (lost idle : ℕ) → row ≡ get_or rows i no_row
+    → let was = before rows lost idle in
+    let is = after (set rows i row') (lost + lost_by t) (idle + idle_by t) in
+    (after_step_of W bounds i was ≡ is)
+    × ((b : Call) (k : ℕ) → Due W b bounds k i → is_in was.finished i ≡ false → Underway W b k was → Underway W b (k + 1) is)

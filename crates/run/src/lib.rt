@@ -7,14 +7,14 @@
 ghost use Rattle.std.specs.Prelude.{◌≡◌, false, map, slice_set, get_or};
 ghost use Rattle.semantics.specs.Run.{run_result, refusal_of};
 ghost use Rattle.semantics.specs.Sets.{is_in};
-ghost use Rattle.semantics.specs.Words.{decode};
+ghost use Rattle.semantics.specs.Words.{decode, decode_operation};
 ghost use Rattle.semantics.specs.Narrow.{narrow_width};
 ghost use Rattle.semantics.specs.Wide.{wide_width};
 ghost use Rattle.semantics.specs.Demands.{Demands};
 ghost use Rattle.row.specs.Row.{is_holding, step_taken};
-ghost use Rattle.run.specs.Rows.{at_home, first_rows};
+ghost use Rattle.run.specs.Rows.{at_home, first_records, first_row, first_rows};
 ghost use Rattle.run.specs.Entry.{cleared, stored, stands, finished_by, taken_of};
-ghost use Rattle.run.specs.Underway.{Keeps};
+ghost use Rattle.run.specs.Underway.{KeepsStep, Keeps};
 
 use bitset::{has, size, with};
 use hash::home;
@@ -40,16 +40,25 @@ const NO_ROW: Row = Row {
     },
 };
 
-// The row of a word reads first at the home of its key. A word whose number is no kind's, which only a call that is
-// turned away has, gets a row that takes no step.
-fn first_row<W: Word>(word: u64, cells: u32) -> Row
-    ensures { result ≡ at_home W.width cells word }
+// The row of a word, which reads first at the home of its key, whatever its kind.
+#[tactic(auto, unfolding(semantics::specs::Words::decode_operation))]
+fn row_at_home<W: Word>(word: u64, cells: u32) -> Row
+    ensures { result ≡ record { operation = decode_operation W.width word; progress = at_home W.width cells word } }
 {
     let operation = W::operation(word);
+    Row::new(operation, home(operation.key, cells) as usize)
+}
+
+// The row with which a run begins. A word whose number is no kind's, which only a call that is turned away has, gets a
+// row that takes no step.
+#[tactic(auto, unfolding(semantics::specs::Words::decode_operation))]
+fn first_row<W: Word>(word: u64, cells: u32) -> Row
+    ensures { result ≡ first_row W.width cells word }
+{
     match Kind::try_from(W::row_kind(word)) {
-        Ok(_) => Row::new(operation, home(operation.key, cells) as usize),
+        Ok(_) => row_at_home::<W>(word, cells),
         Err(_) => Row {
-            operation,
+            operation: W::operation(word),
             progress: Record {
                 at: 0,
                 passed: 0,
@@ -59,8 +68,23 @@ fn first_row<W: Word>(word: u64, cells: u32) -> Row
     }
 }
 
-// Each row begins in as many cells as are given. There is room for 64: any further operations have no row.
-pub fn begin<W: Word>(operations: &[u64], cells: u32) -> [Row; MOST_OPERATIONS]
+// Each operation reads first at the home of its key, in as many cells as are given, whatever its kind. There is room
+// for 64: any further ones have no record.
+pub fn begin<W: Word>(operations: &[u64], cells: u32) -> [Record; MOST_OPERATIONS]
+    ensures { result ≡ first_records W.width cells operations.now }
+{
+    let mut records = [NO_ROW.progress; MOST_OPERATIONS];
+    // By index, as in begin_rows.
+    for (i, word) in operations.iter().enumerate() {
+        if i < MOST_OPERATIONS {
+            records[i] = row_at_home::<W>(*word, cells).progress;
+        }
+    }
+    records
+}
+
+// Each row of a run begins in as many cells as are given. There is room for 64: any further operations have no row.
+pub fn begin_rows<W: Word>(operations: &[u64], cells: u32) -> [Row; MOST_OPERATIONS]
     ensures { result ≡ first_rows W.width cells operations.now }
 {
     let mut rows = [NO_ROW; MOST_OPERATIONS];
@@ -132,11 +156,11 @@ pub enum Taken {
     Finished,
 }
 
-// A step of a row that has not finished, whose key tells no pass. It is not put into the loop over the schedule, whose
-// passes then keep all that they need in registers: measured, a schedule of passes takes about a fifth more
-// instructions without it. The caller lends three slices, as C does: a struct of them would be packed and unpacked at
-// each call. The set of finished rows is a mask, a form that the specification names: a set would need a heap.
-#[inline(never)]
+// A step of a row, whose key tells no pass. It is built into the loop over the schedule: as a function apart it would spare
+// a schedule of passes about a seventh of its instructions, and cost a run of steps that are no passes a third more time.
+// The caller lends three slices, as C does: a struct of them would be packed and unpacked at each call. The set of
+// finished rows is a mask, a form that the specification names: a set would need a heap.
+#[inline(always)]
 fn act<W: Word>(
     cells: &mut [W],
     answers: &mut [W],
@@ -146,10 +170,9 @@ fn act<W: Word>(
     entry: u8,
     finished: u64,
 ) -> Taken
-    requires { is_in finished entry ≡ false }
-    ensures holds { Keeps W.width bounds entry (stands (map W.number cells.old) (map W.number answers.old) log.old finished)
+    ensures holds { KeepsStep W.width bounds entry (stands (map W.number cells.old) (map W.number answers.old) log.old finished)
         (stands (map W.number cells.new) (map W.number answers.new) log.new (finished_by finished entry result)) row.old row.new result }
-    ensures answers { result ≡ taken_of (is_in finished entry) (step_taken bounds row.old (decode W.width (get_or (map W.number cells.old) row.old.progress.at 0))) }
+    ensures answers { result ≡ taken_of false (step_taken bounds row.old (decode W.width (get_or (map W.number cells.old) row.old.progress.at 0))) }
 {
     let from = row.progress;
     let Some(stepped) = row.step(bounds, cell_at(cells, from.at)) else {
@@ -167,12 +190,35 @@ fn act<W: Word>(
     }
 }
 
-// Takes one entry of a schedule, of a row that is lent. After every entry the slices hold what a run ending there
-// leaves: if they hold what k entries leave, they hold afterwards what k + 1 leave. An entry whose row has finished
-// leaves all as it was, and counts one idle. Any other takes one step of its row, and where that finishes it, its
-// answer and its place in the log are written at once. What it answers is an equation for every entry, also one that is
-// no row's.
+// Takes one step of a row that is lent, for an entry of a schedule that names it, whatever the set of finished rows has.
+// Where the step finishes the row, its answer and its place in the log are written at once. After every entry the slices
+// hold what a run ending there leaves: if they hold what k entries leave, and the row that entry k names has not
+// finished, they hold afterwards what k + 1 leave. What it answers is an equation for every entry, also one that is no
+// row's.
 pub fn take<W: Word>(
+    cells: &mut [W],
+    answers: &mut [W],
+    log: &mut [u8],
+    row: &mut Row,
+    bounds: Bounds,
+    entry: u8,
+    finished: u64,
+) -> Taken
+    ensures holds { KeepsStep W.width bounds entry (stands (map W.number cells.old) (map W.number answers.old) log.old finished)
+        (stands (map W.number cells.new) (map W.number answers.new) log.new (finished_by finished entry result)) row.old row.new result }
+    ensures answers { result ≡ taken_of false (step_taken bounds row.old (decode W.width (get_or (map W.number cells.old) row.old.progress.at 0))) }
+{
+    if row.skims(bounds.cells, key_at(cells, row.progress.at)) {
+        return Taken::GoesOn;
+    }
+    act(cells, answers, log, row, bounds, entry, finished)
+}
+
+// Takes one entry of a schedule, of a row that is lent: idle, or a step by take. After every entry the slices hold what
+// a run ending there leaves: if they hold what k entries leave, they hold afterwards what k + 1 leave. An entry whose row
+// has finished leaves all as it was, and counts one idle. Any other takes one step of its row. What it answers is an
+// equation for every entry, also one that is no row's.
+pub fn take_entry<W: Word>(
     cells: &mut [W],
     answers: &mut [W],
     log: &mut [u8],
@@ -188,14 +234,11 @@ pub fn take<W: Word>(
     if has(finished, entry) {
         return Taken::Idle;
     }
-    if row.skims(bounds.cells, key_at(cells, row.progress.at)) {
-        return Taken::GoesOn;
-    }
-    act(cells, answers, log, row, bounds, entry, finished)
+    take(cells, answers, log, row, bounds, entry, finished)
 }
 
 // Takes the schedule's entries in turn, on a call that is not turned away. After every entry the slices hold what a
-// run ending there leaves, a run of the entries so far: that is all that the loop keeps, and take promises it.
+// run ending there leaves, a run of the entries so far: that is all that the loop keeps, and take_entry promises it.
 fn entries<W: Word>(
     cells: &mut [W],
     operations: &[u64],
@@ -212,17 +255,18 @@ fn entries<W: Word>(
         cells: cells.len(),
     };
     clear(answers, operations.len());
-    let mut rows = begin::<W>(operations, cells.len() as u32);
+    let mut rows = begin_rows::<W>(operations, cells.len() as u32);
     let mut finished = 0u64;
     let mut lost = 0usize;
     let mut idle = 0usize;
     for entry in schedule {
         let i = *entry as usize;
-        match take(cells, answers, log, &mut rows[i], bounds, *entry, finished) {
-            Taken::Idle => idle += 1,
+        let taken = take_entry(cells, answers, log, &mut rows[i], bounds, *entry, finished);
+        match taken {
             Taken::GoesOn => {}
             Taken::Lost => lost += 1,
             Taken::Finished => finished = with(finished, *entry),
+            Taken::Idle => idle += 1,
         }
     }
     Outcome {
@@ -235,6 +279,7 @@ fn entries<W: Word>(
 }
 
 // A whole run, on a table of either width. The call is judged first, and one that is turned away alters nothing.
+#[inline(never)]
 pub fn run_words<W: Word>(
     cells: &mut [W],
     operations: &[u64],

@@ -23,7 +23,7 @@ loop-entry-init g c =
     let b = numbered W.number c.args.cells.now c.args.operations.now c.args.schedule.now c.args.answers.now c.args.log.now in
     let all : min (length b.operations) (length b.answers) ≡ length b.operations = omega (arith, (loop.ok g.met.W.Word.packing b c.requires).answers) in
     loop.at-start g.met.W.Word.packing b c.requires refl (c.clear.ensures ∙ ap (λ (n : ℕ). over (replicate n 0) b.answers) all)
-    (c.begin-rows.ensures ∙ ap (λ (n : ℕ). first_rows W.width n b.operations) (sym (length-map c.args.cells.now W.number)))
+    (c.begin_rows-rows.ensures ∙ ap (λ (n : ℕ). first_rows W.width n b.operations) (sym (length-map c.args.cells.now W.number)))
 
 pub bounds-rows-i : goal.bounds-rows-i
 bounds-rows-i g c =
@@ -43,15 +43,15 @@ loop-entry-preserved g c =
       names = refl;
       limits = ap₂ (λ (x y : ℕ). record { ceiling = x; cells = y }) c.ceiling.ensures (sym (length-map c.args.cells.now W.number));
     } in
-    let kept = (c.take.ensures.holds c.loop-entry.rows c.loop-entry.lost c.loop-entry.idle refl).1 b c.loop-entry.entry-index due c.loop-entry.invariant in
+    let kept = (c.take_entry-taken.ensures.holds c.loop-entry.rows c.loop-entry.lost c.loop-entry.idle refl).1 b c.loop-entry.entry-index due c.loop-entry.invariant in
     let finished = λ (t : Taken). finished_by c.loop-entry.finished i t in
     let lost = λ (t : Taken). c.loop-entry.lost + lost_by t in
     let idle = λ (t : Taken). c.loop-entry.idle + idle_by t in
-    elim c.match-take.branch [
-      | in-Idle w ↦ loop.recounted kept (w.finished-is ∙ ap finished (sym w.in-Idle.is)) (w.lost-is ∙ omega arith ∙ ap lost (sym w.in-Idle.is)) (w.idle-is ∙ ap idle (sym w.in-Idle.is))
+    elim c.match-taken.branch [
       | in-GoesOn w ↦ loop.recounted kept (w.finished-is ∙ ap finished (sym w.in-GoesOn.is)) (w.lost-is ∙ omega arith ∙ ap lost (sym w.in-GoesOn.is)) (w.idle-is ∙ omega arith ∙ ap idle (sym w.in-GoesOn.is))
       | in-Lost w ↦ loop.recounted kept (w.finished-is ∙ ap finished (sym w.in-Lost.is)) (w.lost-is ∙ ap lost (sym w.in-Lost.is)) (w.idle-is ∙ omega arith ∙ ap idle (sym w.in-Lost.is))
       | in-Finished w ↦
           loop.recounted kept (w.finished-is ∙ w.with-finished.ensures ∙ ap finished (sym w.in-Finished.is)) (w.lost-is ∙ omega arith ∙ ap lost (sym w.in-Finished.is))
           (w.idle-is ∙ omega arith ∙ ap idle (sym w.in-Finished.is))
+      | in-Idle w ↦ loop.recounted kept (w.finished-is ∙ ap finished (sym w.in-Idle.is)) (w.lost-is ∙ omega arith ∙ ap lost (sym w.in-Idle.is)) (w.idle-is ∙ ap idle (sym w.in-Idle.is))
     ]
