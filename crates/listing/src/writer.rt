@@ -32,19 +32,37 @@ fn copy_to(out: &mut [u8], at: usize, bytes: &[u8])
 }
 
 impl<'a> Writer<'a> {
-    // One byte. The position is held at the last, where no slice has a byte.
+    // One byte. The position is held at the last, where no slice has a byte: behind a byte that is stored it need not be,
+    // and is not compared.
     #[tactic(auto, unfolding(crate::specs::Writing::wrote, crate::specs::Writing::written, crate::specs::Writing::put))]
     pub fn put(&mut self, byte: u8)
         ensures { wrote self.old (byte ∷ []) ≡ self.new }
     {
         if self.at < self.out.len() {
             self.out[self.at] = byte;
+            self.at += 1;
+        } else {
+            self.at = self.at.saturating_add(1);
         }
-        self.at = self.at.saturating_add(1);
     }
 
-    // The bytes of a slice: at once where there is room for all or for none, as there mostly is, and else one after
-    // another. One after another in each case takes a third more instructions.
+    // The bytes of a slice, one after another. They are put by a writer of their own, which the compiler holds in registers:
+    // this one lies behind a reference, and would be read and written again at each byte.
+    #[tactic(auto, using(crate::proofs::Writing::bytes_written), unfolding(crate::specs::Writing::wrote))]
+    fn put_each(&mut self, bytes: &[u8])
+        ensures { wrote self.old bytes.now ≡ self.new }
+    {
+        let mut writer = Writer {
+            out: &mut *self.out,
+            at: self.at,
+        };
+        for byte in bytes {
+            writer.put(*byte);
+        }
+        self.at = writer.at;
+    }
+
+    // The bytes of a slice: at once where there is room for all or for none, as there mostly is, and else one by one.
     #[tactic(auto, using(crate::proofs::Writing::bytes_written))]
     pub fn put_bytes(&mut self, bytes: &[u8])
         ensures { wrote self.old bytes.now ≡ self.new }
@@ -56,15 +74,15 @@ impl<'a> Writer<'a> {
         } else if self.out.len() <= self.at {
             self.at = end;
         } else {
-            for byte in bytes {
-                self.put(*byte);
-            }
+            self.put_each(bytes);
         }
     }
 
     // A number in decimal. Its digits are found from the last to the first, so they are laid at the end of an
     // array that is long enough for any, and need not be counted before. The place of the first is counted by hand:
-    // it is wanted after the loop, and an iterator from the back would have it counted beside.
+    // it is wanted after the loop, and an iterator from the back would have it counted beside. They are put one after
+    // another, since they are mostly few: how many is not known beforehand, and a copy of fewer than eight at once is a
+    // call of memcpy.
     #[tactic(auto, using(crate::proofs::Decimal::digits_laid))]
     fn put_number(&mut self, n: u64)
         ensures { wrote self.old (decimal n) ≡ self.new }
@@ -79,7 +97,7 @@ impl<'a> Writer<'a> {
         }
         first -= 1;
         digits[first] = last_digit(rest);
-        self.put_bytes(&digits[first..]);
+        self.put_each(&digits[first..]);
     }
 
     // A label and a number after it, in decimal.
