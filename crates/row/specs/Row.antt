@@ -1,4 +1,4 @@
--- Must be believed of the promises of row and of run::take alone: what `run` and `report` promise rests on semantics/specs.
+-- Must be believed of the promises of row, of run::take and of run::take_entry alone: what `run` and `report` promise rests on semantics/specs.
 -- On the records of the code: how a record turns, and what one step leaves. The rules are those of semantics/specs/Step.antt.
 -- Assumes nothing.
 use Rattle.std.specs.Prelude.{ℕ, suc, not, ◌+◌, ◌%◌, Bool, true, false, cond, ◌&&◌, eqb, ltb, Option, Some, None}

@@ -12,7 +12,7 @@ ghost use Rattle.semantics.specs.Narrow.{narrow_width};
 ghost use Rattle.semantics.specs.Wide.{wide_width};
 ghost use Rattle.semantics.specs.Demands.{Demands};
 ghost use Rattle.row.specs.Row.{is_holding, step_taken};
-ghost use Rattle.run.specs.Rows.{at_home, first_records, first_row, first_rows};
+ghost use Rattle.run.specs.Rows.{at_home, blank_rows, first_records, first_row, first_rows};
 ghost use Rattle.run.specs.Entry.{cleared, stored, stands, finished_by, taken_of};
 ghost use Rattle.run.specs.Underway.{KeepsStep, Keeps};
 
@@ -55,11 +55,12 @@ fn row_at_home<W: Word>(word: u64, cells: u32) -> Row
 fn first_row<W: Word>(word: u64, cells: u32) -> Row
     ensures { result ≡ first_row W.width cells word }
 {
-    match Kind::try_from(W::row_kind(word)) {
-        Ok(_) => row_at_home::<W>(word, cells),
-        Err(_) => Row {
-            operation: W::operation(word),
-            progress: Record {
+    let row = row_at_home::<W>(word, cells);
+    Row {
+        operation: row.operation,
+        progress: match Kind::try_from(W::row_kind(word)) {
+            Ok(_) => row.progress,
+            Err(_) => Record {
                 at: 0,
                 passed: 0,
                 stage: Stage::Finished,
@@ -83,17 +84,30 @@ pub fn begin<W: Word>(operations: &[u64], cells: u32) -> [Record; MOST_OPERATION
     records
 }
 
-// Each row of a run begins in as many cells as are given. There is room for 64: any further operations have no row.
-pub fn begin_rows<W: Word>(operations: &[u64], cells: u32) -> [Row; MOST_OPERATIONS]
-    ensures { result ≡ first_rows W.width cells operations.now }
+// Lays the rows with which a run begins into room that has none yet. There is room for 64: any further operations have no
+// row. (Lent, and not returned: the room would be copied. It is never built into the loop over a schedule, whose steps
+// would take more time.)
+#[inline(never)]
+fn lay_rows<W: Word>(rows: &mut [Row; MOST_OPERATIONS], operations: &[u64], cells: u32)
+    requires { rows.old ≡ blank_rows }
+    ensures { rows.new ≡ first_rows W.width cells operations.now }
 {
-    let mut rows = [NO_ROW; MOST_OPERATIONS];
     // By index: over `take` or `zip` the invariant would speak of the iterator's own fields, which is no plainer.
     for (i, word) in operations.iter().enumerate() {
         if i < MOST_OPERATIONS {
             rows[i] = first_row::<W>(*word, cells);
         }
     }
+}
+
+// Each row of a run begins in as many cells as are given. There is room for 64: any further operations have no row. (It is for
+// whoever wants the rows alone: a run lays them into room of its own.)
+#[tactic(auto, unfolding(crate::specs::Rows::blank_rows))]
+pub fn begin_rows<W: Word>(operations: &[u64], cells: u32) -> [Row; MOST_OPERATIONS]
+    ensures { result ≡ first_rows W.width cells operations.now }
+{
+    let mut rows = [NO_ROW; MOST_OPERATIONS];
+    lay_rows::<W>(&mut rows, operations, cells);
     rows
 }
 
@@ -157,7 +171,8 @@ pub enum Taken {
 }
 
 // A step of a row, whose key tells no pass. It is built into the loop over the schedule: as a function apart it would spare
-// a schedule of passes about a seventh of its instructions, and cost a run of steps that are no passes a third more time.
+// a schedule of passes about a seventh of its instructions, and cost a run of steps that are no passes up to two thirds
+// more time.
 // The caller lends three slices, as C does: a struct of them would be packed and unpacked at each call. The set of
 // finished rows is a mask, a form that the specification names: a set would need a heap.
 #[inline(always)]
@@ -255,7 +270,8 @@ fn entries<W: Word>(
         cells: cells.len(),
     };
     clear(answers, operations.len());
-    let mut rows = begin_rows::<W>(operations, cells.len() as u32);
+    let mut rows = [NO_ROW; MOST_OPERATIONS];
+    lay_rows::<W>(&mut rows, operations, cells.len() as u32);
     let mut finished = 0u64;
     let mut lost = 0usize;
     let mut idle = 0usize;
@@ -278,7 +294,8 @@ fn entries<W: Word>(
     }
 }
 
-// A whole run, on a table of either width. The call is judged first, and one that is turned away alters nothing.
+// A whole run, on a table of either width. The call is judged first, and one that is turned away alters nothing. (It is never
+// built into its caller, where the arrays of a report would be cleared twice.)
 #[inline(never)]
 pub fn run_words<W: Word>(
     cells: &mut [W],

@@ -68,7 +68,7 @@ Untouched schedule after =
 
 module _ (W : Width) (cells operations schedule answers log : List ℕ) where
   -- what the first k entries come to: the result of a call with those alone. With k the schedule's length, or more, it is that of all. On the
-  -- way there the slices hold the same after k entries: `run::take` promises it, in its clause holds.
+  -- way there the slices hold the same after k entries: `run::take` and `run::take_entry` promise it, in their clauses holds.
   abbrev pub after_entries : ℕ → Result
   after_entries k = run_result W cells operations (take k schedule) answers log
 

@@ -328,7 +328,10 @@ impl Operation<Total> {
         }
     }
 
-    // One step on the one cell that it reads, by where the operation stands.
+    // One step on the one cell that it reads, by where the operation stands. It is built into the loop over a schedule, also
+    // where a program has that loop at both widths: with a call of it, the report of a run that loses many swaps takes 1.6
+    // times the instructions.
+    #[inline(always)]
     pub fn step(self, bounds: Bounds, pending: Pending<Total>, cell: Cell<Total>) -> Stepped<Total>
         ensures { result ≡ step (setting_in bounds) self pending cell }
     {

@@ -1,5 +1,5 @@
--- Must be believed of the promises of the packers of word::Word and of run::take alone: what `run` and `report` promise rests on
--- semantics/specs.
+-- Must be believed of the promises of the packers of word::Word, of run::take and of run::take_entry alone: what `run` and `report`
+-- promise rests on semantics/specs.
 -- Which totals a word of a width can hold, and what it holds of any other.
 -- Assumes nothing.
 use Rattle.std.specs.Prelude.{◌≡◌, ◌+◌, ◌%◌, true}

@@ -4,7 +4,7 @@ use lib.ListN.{length-map}
 use Rattle.semantics.specs.declared.rules.Bounds.{Bounds}
 use Rattle.semantics.specs.Run.{over}
 use Rattle.run.specs.declared.Taken.{Taken}
-use Rattle.run.specs.Rows.{first_rows}
+use Rattle.run.specs.Rows.{blank_rows, first_rows}
 use Rattle.run.specs.Entry.{finished_by, lost_by, idle_by}
 use Rattle.run.specs.Underway.{Due, numbered}
 use Rattle.run.proofs.Loop as loop
@@ -17,13 +17,17 @@ overflow_cast-cells g c =
     let b = numbered W.number c.args.cells.now c.args.operations.now c.args.schedule.now c.args.answers.now c.args.log.now in
     record { fits = omega (arith, (loop.sized g.met.W.Word.packing b c.requires).1, length-map c.args.cells.now W.number) }
 
+pub lay_rows-requires : goal.lay_rows-requires
+unfolding blank_rows
+lay_rows-requires g c = refl
+
 pub loop-entry-init : goal.loop-entry-init
 loop-entry-init g c =
     let W = g.W.Word in
     let b = numbered W.number c.args.cells.now c.args.operations.now c.args.schedule.now c.args.answers.now c.args.log.now in
     let all : min (length b.operations) (length b.answers) ≡ length b.operations = omega (arith, (loop.ok g.met.W.Word.packing b c.requires).answers) in
     loop.at-start g.met.W.Word.packing b c.requires refl (c.clear.ensures ∙ ap (λ (n : ℕ). over (replicate n 0) b.answers) all)
-    (c.begin_rows-rows.ensures ∙ ap (λ (n : ℕ). first_rows W.width n b.operations) (sym (length-map c.args.cells.now W.number)))
+    (c.lay_rows.ensures ∙ ap (λ (n : ℕ). first_rows W.width n b.operations) (sym (length-map c.args.cells.now W.number)))
 
 pub bounds-rows-i : goal.bounds-rows-i
 bounds-rows-i g c =

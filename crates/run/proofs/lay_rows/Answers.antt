@@ -4,12 +4,12 @@ use lib.Seq.{take_all, get_or-take}
 use Rattle.semantics.specs.Run.{over}
 use Rattle.semantics.proofs.Over.{over_none, map_next}
 use Rattle.run.specs.Rows.{first_row, blank_rows, first_rows}
-use Rattle.run.proofs.begin_rows.Goals as goal
-use Rattle.run.proofs.begin_rows.Goals.{then-i-lt-MOST_OPERATIONS, else-i-lt-MOST_OPERATIONS}
+use Rattle.run.proofs.lay_rows.Goals as goal
+use Rattle.run.proofs.lay_rows.Goals.{then-i-lt-MOST_OPERATIONS, else-i-lt-MOST_OPERATIONS}
 
 pub loop-i-init : goal.loop-i-init
 unfolding blank_rows
-loop-i-init g c = sym (over_none blank_rows)
+loop-i-init g c = c.requires ∙ sym (over_none blank_rows)
 
 pub loop-i-preserved : goal.loop-i-preserved
 unfolding blank_rows
