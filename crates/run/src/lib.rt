@@ -75,7 +75,7 @@ pub fn begin<W: Word>(operations: &[u64], cells: u32) -> [Record; MOST_OPERATION
     ensures { result ≡ first_records W.width cells operations.now }
 {
     let mut records = [NO_ROW.progress; MOST_OPERATIONS];
-    // By index, as in begin_rows.
+    // By index, as in lay_rows.
     for (i, word) in operations.iter().enumerate() {
         if i < MOST_OPERATIONS {
             records[i] = row_at_home::<W>(*word, cells).progress;
